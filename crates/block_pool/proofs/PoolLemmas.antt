@@ -1,4 +1,4 @@
--- What a pool knows of a block, as a place in its list.
+-- The pool's entry for a block, as a place in its list.
 use Rattle.std.proofs.Common.{◌≡◌, ◌≢◌, ℕ, ◌<◌, ◌≤◌, ◌+◌, ◌-◌, List, length, get_or, set, replicate, inl, inr, sym, ◌∙◌, ap, subst, arith}
 use Rattle.std.proofs.lemmas.Bool.{cases_lt, cases_eq}
 use Rattle.std.proofs.lemmas.List.{get_or_read, get_or-set_same, get_or-set_other, get_or-replicate, get_or_past, length-replicate}
@@ -14,7 +14,7 @@ pub record AreFieldsOf (pool : PoolValue) (fields : Inside) : Type 0 where
   pub first : fields.first ≡ first_pool fields.geometry
   pub count : length fields.blocks.items ≡ fields.geometry.c + fields.geometry.l + 1
 
--- where the list has a block, counted from the first
+-- the place of a block in the list, counted from the first
 abbrev pub place : Inside → ℕ → ℕ
 place fields block = block - fields.first
 
@@ -33,7 +33,7 @@ module _ (pool : PoolValue) (fields : Inside) (are : AreFieldsOf pool fields) (b
       let here : IsInPool fields.geometry block = subst (λ (p : PoolValue). IsInPool p.geometry block) (sym are.value) in_pool in
       omega (arith, are.first, here.0)
 
-  -- what is read at the block's place
+  -- the entry that is read at the block's place
   pub pool_block-read : (found : PoolBlock) → found ≡ get_or fields.blocks.items (place fields block) found → found ≡ pool_block pool block
   unfolding pool_block
   pool_block-read found is =
@@ -44,7 +44,7 @@ module _ (pool : PoolValue) (fields : Inside) (are : AreFieldsOf pool fields) (b
   unfolding pool_block
   pool_block-with_same entry = rw (← are.first) (get_or-set_same fields.blocks.items (place fields block) entry unused place_below)
 
-  -- each part of which the entry has what it was stays, of every block
+  -- a part that the entry leaves unchanged stays for every block
   pub part-with : {A : Type 0} (part : PoolBlock → A) (entry : PoolBlock) → part entry ≡ part (pool_block pool block)
       → (other : ℕ) → part (pool_block (with_entry fields block entry) other) ≡ part (pool_block pool other)
   unfolding pool_block

@@ -7,20 +7,20 @@ pub record IsFirstBelow (pool : PoolValue) (end block : ℕ) : Type 0 where
   pub fewest : (other : ℕ) → other < end → IsFree pool other → erases_of pool block ≤ erases_of pool other
   pub lowest : (other : ℕ) → other < end → IsFree pool other → erases_of pool other ≡ erases_of pool block → block ≤ other
 
--- of the blocks below a number this one is taken
+-- among the blocks below a number this one is taken
 pub record IsNextBelow (pool : PoolValue) (end block : ℕ) : Type 0 where
   pub free : IsFree pool block
   pub below : block < end
   pub first : IsFirstBelow pool end block
 
--- what a walk found below a number: the block to take, or that none is free
+-- the result of a walk below a number: the block to take, or that none is free
 abbrev pub IsFoundBelow : PoolValue → ℕ → Option ℕ → Type 0
 IsFoundBelow pool end None = (other : ℕ) → other < end → IsFree pool other → ⊥
 IsFoundBelow pool end (Some block) = IsNextBelow pool end block
 
 -- ---- for callers
 
--- one block alone is the next
+-- only one block is the next
 pub IsNextTaken-is_one : (pool : PoolValue) (a b : ℕ) → IsNextTaken pool a → IsNextTaken pool b → a ≡ b
 IsNextTaken-is_one pool a b first second =
     let a_fewest = first.fewest b second.free in

@@ -22,7 +22,7 @@ IsInPool g block = (layout.first_pool g ≤ block) × (block < layout.blocks g)
 abbrev pub unused : PoolBlock
 unused = record { role = Free; erases = 0 }
 
--- what the pool knows of its block of this number
+-- the pool's entry for its block of this number
 unfoldable pub pool_block : PoolValue → ℕ → PoolBlock
 pool_block pool block = slice_index_or pool.blocks (block - layout.first_pool pool.geometry) unused
 
@@ -34,22 +34,23 @@ role_of pool block = (pool_block pool block).role
 abbrev pub erases_of : PoolValue → ℕ → ℕ
 erases_of pool block = (pool_block pool block).erases
 
--- a block of the pool that is used for nothing
+-- a block of the pool that is free
 abbrev pub IsFree : PoolValue → ℕ → Type 0
 IsFree pool block = IsInPool pool.geometry block × (role_of pool block ≡ Free)
 
--- the free block with the fewest erases, of these the one of the lowest number
+-- the free block with the fewest erases, and of several such blocks the one with the lowest number
 pub record IsNextTaken (pool : PoolValue) (block : ℕ) : Type 0 where
   pub free : IsFree pool block
   pub fewest : (other : ℕ) → IsFree pool other → erases_of pool block ≤ erases_of pool other
   pub lowest : (other : ℕ) → IsFree pool other → erases_of pool other ≡ erases_of pool block → block ≤ other
 
--- the block was erased once more, and no other one
+-- the block was erased once more, and no other block was
 pub record ErasedOnce (old new : PoolValue) (block : ℕ) : Type 0 where
   pub this : erases_of new block ≡ bumped (erases_of old block)
   pub others : (other : ℕ) → IsInPool old.geometry other → other ≢ block → erases_of new other ≡ erases_of old other
 
--- whatever is answered, only pages of the block that is next taken may go; and where the flash failed, it alone is no longer ready
+-- whatever the answer is, only pages of the block that is taken next may be lost; if the flash failed, only that block
+-- is no longer ready
 pub record ErasesNext (pool : PoolValue) (old new : Flash) (was_failed : Bool) : Type 0 where
   pub block : ℕ
   pub taken : IsNextTaken pool block

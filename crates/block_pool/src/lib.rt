@@ -1,8 +1,8 @@
 //! The erase blocks of the pool, each with a role and the count of its erases since opening.
 //!
-//! The layer above relies on this: `take` erases a free block with the fewest erases, of these the one
-//! of the lowest number, and no other block; refused, the pool is as before, and of the flash at most
-//! pages of that one block are gone. Roles change by `set_role` alone.
+//! The layer above relies on this: `take` erases a free block with the fewest erases, and no other block. Of several
+//! such blocks it takes the one with the lowest number. On `Err` the pool is unchanged, and the flash has lost at most
+//! pages of that one block. Only `set_role` changes roles.
 #![tactic(auto)]
 
 pub mod plain;

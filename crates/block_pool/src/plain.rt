@@ -12,15 +12,15 @@ pub fn is_in_pool(geometry: &Geometry, block: u32) -> bool
     geometry.first_pool() <= block && block < geometry.blocks()
 }
 
-/// Whether the erase block is one of the pool that is used for nothing.
+/// Whether the erase block is a free block of the pool.
 pub fn is_free(pool: &Pool, block: u32) -> bool
     ensures { IsTrue result ↔ IsFree pool.now block }
 {
     is_in_pool(&pool.geometry, block) && pool.role(block) == Role::Free
 }
 
-/// Whether the erase block is the next one that is taken: no other free one has fewer erases, and none
-/// with as many has a lower number.
+/// Whether the erase block is the next one that is taken: no other free block has fewer erases, and no free block with
+/// equally many has a lower number.
 pub fn is_next_taken(pool: &Pool, block: u32) -> bool
     ensures { IsTrue result ↔ IsNextTaken pool.now block }
 {

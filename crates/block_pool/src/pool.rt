@@ -22,7 +22,7 @@ pub enum Role {
     Log,
 }
 
-/// What is known of one erase block of the pool.
+/// The role and the erases of one erase block of the pool.
 #[derive(Clone, Copy, Debug, PartialEq, Eq)]
 pub(crate) struct PoolBlock {
     pub(crate) role: Role,
@@ -33,7 +33,7 @@ pub(crate) struct PoolBlock {
 #[derive(Drop)]
 pub struct Pool {
     pub(crate) geometry: Geometry,
-    // The number of the first one, which follows from the geometry.
+    // The number of the first erase block, which follows from the geometry.
     first: u32,
     blocks: Vec<PoolBlock>,
 }
@@ -51,8 +51,8 @@ impl Model for Pool {
 }
 
 impl Pool {
-    /// A pool of which every block is free and was never erased. It takes all the memory that the pool
-    /// will ever need, and is refused for want of memory alone.
+    /// A pool in which every block is free and was never erased. It allocates all memory that the pool will ever need,
+    /// and fails only with out of memory.
     pub fn new(alloc: Global, geometry: &Geometry) -> Result<Pool, AllocError>
         ensures geometry { IfOk result (λ pool. pool.geometry ≡ geometry.now) }
         ensures free { IfOk result (λ pool. (b : ℕ) → IsInPool geometry.now b → IsFree pool b) }
@@ -78,7 +78,7 @@ impl Pool {
         self.blocks[(block - self.first) as usize].role
     }
 
-    /// How often a block of the pool was erased since opening. The count stands still at its last value.
+    /// How often a block of the pool was erased since opening. The count stays at its last value once it gets there.
     pub fn erases(&self, block: u32) -> u64
         requires { IsInPool self.now.geometry block }
         ensures { result ≡ erases_of self.now block }
@@ -86,7 +86,7 @@ impl Pool {
         self.blocks[(block - self.first) as usize].erases
     }
 
-    /// Uses a block of the pool for this from now on. No other block changes.
+    /// Gives a block of the pool this role from now on. No other block changes.
     pub fn set_role(&mut self, block: u32, role: Role)
         requires { IsInPool self.old.geometry block }
         ensures geometry { self.new.geometry ≡ self.old.geometry }
@@ -97,9 +97,9 @@ impl Pool {
         self.blocks[(block - self.first) as usize].role = role;
     }
 
-    /// Erases the free block with the fewest erases since opening, of these the one of the lowest number,
-    /// and answers its number: one device write. The block stays free until its role is set. Refused by
-    /// the flash or for want of power, the pool is as before; it is never refused for want of memory.
+    /// Erases the free block with the fewest erases since opening, and of several such blocks the one with the lowest
+    /// number. It answers the block's number, and makes one device write. The block stays free until its role is set.
+    /// On `Err`, when the flash fails or power is lost, the pool is unchanged. It never fails with out of memory.
     pub fn take<M: Media>(&mut self, media: &mut M) -> Result<u32, MediaError>
         requires shape { layout.blocks self.old.geometry ≤ (M.state media.old).contents.shape.blocks }
         requires free { (b : ℕ) × IsFree self.old b }
@@ -121,7 +121,7 @@ impl Pool {
         Ok(block)
     }
 
-    /// The free block with the fewest erases, of these the one of the lowest number.
+    /// The free block with the fewest erases, and of several such blocks the one with the lowest number.
     fn next_taken(&self) -> u32
         requires { (b : ℕ) × IsFree self.now b }
         ensures { IsNextTaken self.now result }

@@ -11,16 +11,16 @@ use mem_rig::MemRig;
 use std::alloc::{AllocError, Global};
 use std::test::Fail;
 
-/// What can be seen of a pool and of its flash.
+/// A fact that can be seen of a pool and of its flash.
 #[derive(Clone, Copy)]
 enum Fact {
-    /// The role of a block of the pool, and the count of its erases. None for any other block.
+    /// The role of a block of the pool, and the count of its erases. `None` for any other block.
     Known(u32, Option<(Role, u64)>),
     /// Whether a block is free.
     Free(u32, bool),
     /// Whether a block is the next one that is taken.
     NextTaken(u32, bool),
-    /// The page that an erase block is ready for.
+    /// The page of an erase block that is ready to be programmed.
     NextPage(u32, Option<u32>),
     /// How many erases the flash counted.
     Erases(u64),
@@ -31,11 +31,11 @@ enum Fact {
 /// A line of an example.
 #[derive(Clone, Copy)]
 enum Line {
-    /// A block is taken, which is answered so. None where no block is free.
+    /// A block is taken, with this answer. `None` if no block is free.
     Take(Option<Result<u32, MediaError>>),
     /// A block is taken, and used for data.
     TakeForData(Option<u32>),
-    /// A block of the pool is used for this from now on.
+    /// A block of the pool has this role from now on.
     SetRole(u32, Role),
     /// The first page of an erase block is programmed.
     Program(u32),
@@ -43,18 +43,18 @@ enum Line {
     Arm,
     /// Power is turned on.
     TurnOn,
-    /// What is seen then.
+    /// The fact that is seen then.
     See(Fact),
 }
 
-/// A rig of 9 erase blocks of 4 pages, of which these calls of the flash will fail.
+/// A rig of 9 erase blocks of 4 pages, in which these calls of the flash will fail.
 fn rig_failing(alloc: Global, calls: &[u64]) -> Result<MemRig, AllocError> {
     let mut rig = MemRig::failing(alloc, calls.to_vec(alloc)?, Vec::new(alloc));
     rig.fit_anew(alloc, 9, 4, 64)?;
     Ok(rig)
 }
 
-/// The free block of the lowest number.
+/// The free block with the lowest number.
 fn first_free(pool: &Pool) -> Option<u32>
     ensures { IfSome result (IsFree pool.now) }
 {
@@ -66,7 +66,7 @@ fn first_free(pool: &Pool) -> Option<u32>
     None
 }
 
-/// Takes a block, where one is free and the rig has the erase blocks of the pool.
+/// Takes a block, if one is free and the rig has the erase blocks of the pool.
 fn take(pool: &mut Pool, rig: &mut MemRig) -> Option<Result<u32, MediaError>> {
     if rig.flash_blocks() < pool.geometry.blocks() {
         return None;
@@ -97,7 +97,7 @@ fn known_of(pool: &Pool, block: u32) -> Option<(Role, u64)> {
     Some((pool.role(block), pool.erases(block)))
 }
 
-/// The page that an erase block is ready for.
+/// The page of an erase block that is ready to be programmed.
 fn next_page(rig: &MemRig, block: u32) -> Option<u32> {
     if block >= rig.flash_blocks() {
         return None;
@@ -119,7 +119,7 @@ fn is_ready(rig: &MemRig, at: Place) -> bool
     }
 }
 
-/// Programs the first page of an erase block, where that is its next one.
+/// Programs the first page of an erase block, if that is its next page.
 fn program_first(rig: &mut MemRig, block: u32) {
     let at = Place { block, page: 0 };
     if is_ready(rig, at) {
@@ -145,7 +145,7 @@ fn holds(pool: &Pool, rig: &MemRig, fact: Fact) -> bool {
     }
 }
 
-/// Does what the line says. Whether what it tells is so.
+/// Does what the line says, and answers whether its facts hold.
 fn is_so(pool: &mut Pool, rig: &mut MemRig, line: Line) -> bool {
     match line {
         Line::Take(answer) => return take(pool, rig) == answer,
@@ -159,10 +159,10 @@ fn is_so(pool: &mut Pool, rig: &mut MemRig, line: Line) -> bool {
     true
 }
 
-/// Goes through the lines, from a new pool on, on flash of which these calls will fail. Says which is the first
-/// that tells what isn't so.
+/// Goes through the lines, with a new pool on flash in which these calls will fail. Answers the first line whose facts
+/// don't hold.
 fn first_wrong(alloc: Global, failing: &[u64], lines: &[Line]) -> Result<Option<usize>, Fail> {
-    // The pool of this geometry is the erase blocks 4 to 8.
+    // The pool of this geometry has the erase blocks 4 to 8.
     let geometry = Geometry::new(4, 2, 2, 1, 64)?;
     let mut rig = rig_failing(alloc, failing)?;
     let mut pool = Pool::new(alloc, &geometry)?;
@@ -201,7 +201,7 @@ const ROLES: [Line; 9] = [
     Line::See(Fact::Known(8, Some((Role::Data, 0)))),
     Line::See(Fact::Free(4, true)),
     Line::See(Fact::Free(5, false)),
-    // No block of the pool.
+    // It is not a block of the pool.
     Line::See(Fact::Free(3, false)),
 ];
 
@@ -217,9 +217,9 @@ const ERASED: [Line; 7] = [
     Line::Take(Some(Ok(4))),
     Line::See(Fact::NextPage(4, Some(0))),
     Line::See(Fact::Erases(1)),
-    // Until its role is set.
+    // It stays free until its role is set.
     Line::See(Fact::Known(4, Some((Role::Free, 1)))),
-    // The other is worn more.
+    // The other block has more erases.
     Line::Take(Some(Ok(5))),
 ];
 
@@ -252,10 +252,10 @@ const WEAR: [Line; 26] = [
     Line::See(Fact::Known(8, Some((Role::Free, 1)))),
     // Used for data.
     Line::See(Fact::NextTaken(4, false)),
-    // Worn more.
+    // It has more erases.
     Line::See(Fact::NextTaken(6, false)),
     Line::See(Fact::NextTaken(7, true)),
-    // As worn, and a higher number.
+    // It has equally many erases, and a higher number.
     Line::See(Fact::NextTaken(8, false)),
     Line::TakeForData(Some(7)),
     Line::TakeForData(Some(8)),

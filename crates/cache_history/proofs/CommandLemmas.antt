@@ -1,4 +1,4 @@
--- What a command leaves of the two lists.
+-- The two lists that a command leaves.
 use Rattle.std.proofs.Common.{◌≡◌, ◌⊎◌, ℕ, true, false, List, [], ◌∷◌, ◌++◌, Option, Some, None, Result, Ok, Err, OnOk, IfOk, refl, sym, ◌∙◌, ap, subst, inl, inr}
 use Rattle.std.specs.FinMap.{get}
 use Rattle.std.specs.List.{list_any}
@@ -32,11 +32,11 @@ use Rattle.cache_history.proofs.GoneLemmas.{vanished_at, vanished_none, left_who
 
 -- ---- an answer
 
--- a crash would leave what it would have left before, but for what gave way
+-- a crash would leave what it would have left before, except for the blocks that gave way
 abbrev pub LosesOf : List Buffered → CacheList → CacheList → CacheList → Type 0
 LosesOf q s left durable = (a : ℕ) → get durable a ≡ unless_gone (get s a) (get left a) (get (undo q s) a)
 
--- what a command that answered Ok made of the list that was held
+-- the list after a command that answered `Ok`, from the list that was held
 pub record MadeOf (c d : Ssc) (contents' : Contents) (x : Given) (s : CacheList) : Type 0 where
   pub left : CacheList
   pub left_by : LeftBy (geometry_of c) x s left
@@ -70,7 +70,7 @@ made_answer c d contents contents' x made l moment = let own = made l.now moment
 loses_none : (q : List Buffered) (s durable : CacheList) → durable ≡ undo q s → LosesOf q s s durable
 loses_none q s durable is a = ap (λ (t : CacheList). get t a) is ∙ sym (unless_same (get s a) (get s a) (get (undo q s) a) refl)
 
--- what gave way is gone from the list without what is buffered, where no write is
+-- the blocks that gave way are gone from the list without the buffered changes, if none of them is a write
 loses_undone : (g : Geometry) (q : List Buffered) (s : CacheList) (lba : ℕ) (v : CacheList) → list_any is_write q ≡ false → Vanish g s lba v → LosesOf q s v (undo q v)
 loses_undone g q s lba v none van a = elim (vanished_at g s lba v van a) [
   | inl same ↦ get_undo q v a ∙ ap (undone_at q a) same ∙ sym (get_undo q s a) ∙ sym (unless_same (get s a) (get v a) (get (undo q s) a) same)
@@ -80,7 +80,7 @@ loses_undone g q s lba v none van a = elim (vanished_at g s lba v van a) [
 none_undone : (d : Ssc) → pending d ≡ [] → (s : CacheList) → undo (pending d) s ≡ s
 none_undone d none s = ap (λ (q : List Buffered). undo q s) none
 
--- what is held dirty isn't held clean, and is held
+-- an address that is held dirty is held, and isn't held clean
 not_clean : (s : CacheList) (a : ℕ) → IsDirtyIn s a → (k : Held) → get s a ≡ Some k → k.dirty ≡ false → ⊥
 not_clean s a dirty k at clean =
     let both : Some k ≡ Some dirty.0 = sym at ∙ dirty.1 in
@@ -91,7 +91,7 @@ not_none : (s : CacheList) (a : ℕ) → IsDirtyIn s a → get s a ≡ None → 
 not_none s a dirty none = let both : None ≡ Some dirty.0 = sym none ∙ dirty.1 in cc
 
 module _ (c d : Ssc) (contents contents' : Contents) (kind : Kind) (lba : ℕ) (block : Block) where
-  -- a command of this kind, where it is the kind that was given
+  -- a command of this kind, if it is the kind that was given
   of_kind : (own : Kind) → kind ≡ own → Made c d contents contents' (given own lba block) → IsAnswer c d contents contents' (given kind lba block)
   of_kind own is made = subst (λ k. IsAnswer c d contents contents' (given k lba block)) (sym is) (made_answer c d contents contents' (given own lba block) made)
 
@@ -206,7 +206,7 @@ module _ (c d : Ssc) (contents contents' : Contents) (kind : Kind) (lba : ℕ) (
         | inr f ↦ inl (as_before s h (λ own. not_clean s lba own k at f) (cleaned_clean s lba k at f))
       ]
 
-  -- ---- up again
+  -- ---- the cache is up again
 
   pub up_after : {T : Type 0} (r : Result T SscError) (step : CacheList → CacheList) → OnOk r ((s : CacheList) → Holds c contents s → Holds d contents' (step s)) → d.stopped ≡ stops r → IsUp c contents → OnOk r (IsUp d contents')
   up_after (Err e) step done stopped up = tt

@@ -1,4 +1,4 @@
--- What gives way to a write.
+-- The blocks that give way to a write.
 use Rattle.std.proofs.Common.{◌≡◌, ◌⊎◌, ℕ, ◌/◌, true, false, cond, Option, Some, None, refl, sym, ◌∙◌, ap, inl, inr}
 use Rattle.std.specs.FinMap.{get}
 use Rattle.std.proofs.lemmas.Bool.{cases_Bool}
@@ -9,11 +9,11 @@ use Rattle.cache_history.specs.declared.kind.Kind.{Kind}
 use Rattle.cache_history.specs.declared.kind.Kind.TheVariants.{WriteDirty, WriteClean, Evict, Clean, Commit, Checkpoint}
 use Rattle.cache_history.specs.History.{LeftByKind, unless_gone, is_write}
 
--- something is held, clean
+-- a block is held, clean
 abbrev pub IsClean : Option Held → Type 0
 IsClean o = (h : Held) × (o ≡ Some h) × (h.dirty ≡ false)
 
--- a write may leave nothing of what was clean
+-- a write may drop a block that was clean
 abbrev pub LostAt : Kind → Option Held → Option Held → Type 0
 LostAt kind o left = IsClean o × (left ≡ None) × (is_write kind ≡ true)
 
@@ -47,11 +47,11 @@ left_whole g Clean a s = refl
 left_whole g Commit a s = refl
 left_whole g Checkpoint a s = refl
 
--- an absent address is absent in what is left
+-- an absent address is absent in the list that is left
 pub vanished_none : (g : Geometry) (s : CacheList) (a : ℕ) (v : CacheList) → Vanish g s a v → (n : ℕ) → get s n ≡ None → get v n ≡ None
 vanished_none g s a v van n is = elim (vanished_at g s a v van n) [ inl same ↦ same ∙ is | inr gave ↦ gave.1 ]
 
--- ---- beside it, what a crash would leave
+-- ---- the block that a crash would leave
 
 pub unless_same : (o left before : Option Held) → left ≡ o → unless_gone o left before ≡ before
 unless_same None left before is = refl

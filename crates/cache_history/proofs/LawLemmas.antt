@@ -1,4 +1,4 @@
--- What an address holds, by the events since the one that decides it.
+-- The block at an address, by the events since the one that decides it.
 use Rattle.std.proofs.Common.{◌≡◌, ◌⊎◌, ℕ, ◌==◌, ◌&&◌, Bool, true, false, cond, List, [], ◌∷◌, ◌++◌, Option, Some, None, refl, sym, ◌∙◌, ap, subst, inl, inr, append-nil}
 use Rattle.std.proofs.lemmas.Bool.{cases_Bool, and_parts, or_parts, both_ways, false≢true}
 use Rattle.std.specs.List.{list_any}
@@ -13,7 +13,8 @@ use Rattle.cache_history.proofs.StepLemmas.{IsDirty, step_at, step_none, step_sa
 use Rattle.cache_history.proofs.GoneLemmas.{IsClean}
 use Rattle.cache_history.proofs.MightLemmas.{Lags, Might, From, Stepped, Kept, GaveWay}
 
--- what holds after some events, of what isn't held clean, and is kept by each later one that isn't such a command, holds
+-- a fact that holds of no block that is held clean. If it holds after the first events, and each later event that isn't
+-- such a command keeps it, it holds after all of them
 module _ (kinds : Kind → Bool) (a : ℕ) (P : Option Held → Type 0) (first : List CacheEvent)
     (own : (o : Option Held) → Might a first o → P o)
     (never : (o : Option Held) → IsClean o → P o → ⊥)
@@ -52,7 +53,7 @@ evicted_own a b before o m = by m.2
 pub evicted_none : (a : ℕ) (b : Block) (later before : List CacheEvent) (o : Option Held) → Might a (later ++ Answered (given Evict a b) ∷ before) o → NoneIs is_write a later → o ≡ None
 evicted_none a b later before = since is_write a (λ o. o ≡ None) (Answered (given Evict a b) ∷ before) (evicted_own a b before) clean_some none_kept later
 
--- from where the address was absent
+-- the address is absent at the start
 pub still_none : (a : ℕ) (later : List CacheEvent) (o : Option Held) → Might a later o → NoneIs is_write a later → o ≡ None
 still_none a later o m = since is_write a (λ o. o ≡ None) [] (λ o is. is) clean_some none_kept later o (subst (λ (es : List CacheEvent). Might a es o) (sym (append-nil later)) m)
 
@@ -74,7 +75,7 @@ dirty_still a b later before =
     since may_undirty a IsDirty (Answered (given WriteDirty a b) ∷ before) (λ o m. (written_block a b true, written_own a b before o m, refl)) clean_not_dirty
     step_dirty later
 
--- where the flash lags behind a write its address isn't held
+-- while the flash lags behind a write, its address isn't held
 lag_none : (kind : Kind) (o : Option Held) (h : Held) → is_write kind ≡ true → Lags kind o → o ≡ Some h → ⊥
 lag_none WriteDirty o h t lag is = lag
 lag_none WriteClean o h t lag is = let both : None ≡ Some h = sym lag ∙ is in cc

@@ -1,4 +1,5 @@
--- What an address may hold after some events, in the list that is held and in the one that a crash would leave.
+-- The block that an address may hold after some events, in the list that is held and in the list that a crash would
+-- leave.
 use Rattle.std.proofs.Common.{◌≡◌, ◌⊎◌, ℕ, ◌==◌, Bool, true, false, List, [], ◌∷◌, Option, Some, None, refl, sym, ◌∙◌, ap, subst, inl, inr, eqb-true, nat_cmp}
 use Rattle.std.specs.Option.{option_map}
 use Rattle.std.specs.FinMap.{get, empty, get-empty}
@@ -12,7 +13,7 @@ use Rattle.cache_history.specs.History.{Given, CacheEvent, Answered, Refused, Cr
 use Rattle.cache_history.proofs.StepLemmas.{step_of, step_at, get_stepped}
 use Rattle.cache_history.proofs.GoneLemmas.{IsClean, left_at, unless_same, unless_lost}
 
--- what the address of a command may be where a crash would undo the command
+-- the block that the address of a command may have if a crash would undo the command
 abbrev pub Lags : Kind → Option Held → Type 0
 Lags WriteDirty o = ⊥
 Lags WriteClean o = o ≡ None
@@ -21,7 +22,8 @@ Lags Clean o = Unit {0}
 Lags Commit o = Unit {0}
 Lags Checkpoint o = Unit {0}
 
--- what a command makes of what is held at an address, if it was answered Ok or not: its step; or what was there, where a crash would undo the command; or nothing, where a clean block gave way
+-- how a command changes the block that is held at an address, whether it answered `Ok` or not. The block after it is
+-- its step; or the old block, if a crash would undo the command; or none, if a clean block gave way
 pub data From (answered here : Bool) (kind : Kind) (lba : ℕ) (block : Block) (p o : Option Held) : Type 0 where
   Stepped : o ≡ step_at here kind lba block p → From answered here kind lba block p o
   Kept : o ≡ p → (answered ≡ true → here ≡ true → Lags kind o) → From answered here kind lba block p o
@@ -33,7 +35,7 @@ Might a (Answered x ∷ es) o = (p : Option Held) × Might a es p × From true (
 Might a (Refused x ∷ es) o = (p : Option Held) × Might a es p × From false (a == x.address) x.kind x.address x.block p o
 Might a (Crashed ∷ es) o = Might a es o
 
--- both may be so, and what isn't held a crash doesn't bring back
+-- both may be true, and a crash doesn't bring back a block that isn't held
 pub record Both (P : Option Held → Type 0) (n e : Option Held) : Type 0 where
   pub now : P n
   pub durable : P e
@@ -71,7 +73,7 @@ at_once Clean a s t = t
 at_once Commit a s t = t
 at_once Checkpoint a s t = t
 
--- a write of what was held
+-- a write of an address that was held
 write_at_once : (kind : Kind) (o : Option Held) → is_write kind ≡ true → IsSome o → AtOnce kind o
 write_at_once WriteDirty o w some = tt
 write_at_once WriteClean o w some = some
@@ -80,7 +82,7 @@ write_at_once Clean o w some = absurd (cc)
 write_at_once Commit o w some = absurd (cc)
 write_at_once Checkpoint o w some = absurd (cc)
 
--- a write looks at nothing that was held
+-- a write ignores the block that was held
 write_alike : (kind : Kind) (lba : ℕ) (block : Block) (p o : Option Held) → is_write kind ≡ true → step_of kind lba block p ≡ step_of kind lba block o
 write_alike WriteDirty lba block p o w = refl
 write_alike WriteClean lba block p o w = refl
@@ -99,7 +101,7 @@ lags Clean s n e once absent = inr tt
 lags Commit s n e once absent = inl (once tt)
 lags Checkpoint s n e once absent = inl (once tt)
 
--- where the step leaves nothing a crash brings nothing back
+-- if the step leaves no block, a crash brings none back
 gone : (kind : Kind) (lba : ℕ) (block : Block) (s n e : Option Held) → (AtOnce kind s → e ≡ n) → (s ≡ None → e ≡ None) → n ≡ None → step_of kind lba block s ≡ None → e ≡ None
 gone WriteDirty lba block s n e once absent none is = absurd (cc)
 gone WriteClean lba block s n e once absent none is = absurd (cc)
@@ -113,7 +115,7 @@ abbrev pub FromOne : Bool → Bool → Kind → ℕ → Block → (Option Held �
 FromOne answered here kind lba block P o = (p : Option Held) × P p × From answered here kind lba block p o
 
 module _ (kind : Kind) (lba : ℕ) (block : Block) (P : Option Held → Type 0) (s n e : Option Held) (may : P s) where
-  -- a crash would leave what may have been before
+  -- a crash would leave a block that may have been there before
   behind : (here : Bool) → n ≡ step_at here kind lba block s → (here ≡ true → AtOnce kind s → e ≡ n) → P e → (s ≡ None → e ≡ None) → Both (FromOne true here kind lba block P) n e
   behind true is once before absent = elim (lags kind s n e (once refl) absent) [
     | inl same ↦ alike (FromOne true true kind lba block P) n e same (s, may, Stepped is)
@@ -121,7 +123,7 @@ module _ (kind : Kind) (lba : ℕ) (block : Block) (P : Option Held → Type 0) 
   ]
   behind false is once before absent = record { now = (s, may, Stepped is); durable = (e, before, Kept refl (λ x y. absurd (let both : false ≡ true = y in cc))); absent = λ none. absent (sym is ∙ none) }
 
-  -- what was there gave way
+  -- the old block gave way
   lost : (here : Bool) → IsClean s → is_write kind ≡ true → n ≡ step_at here kind lba block None → (here ≡ true → AtOnce kind s → e ≡ n) → (e ≡ None) ⊎ (e ≡ n) → Both (FromOne true here kind lba block P) n e
   lost true clean w is once at = alike (FromOne true true kind lba block P) n e (once refl (write_at_once kind s w (clean.0, clean.1))) (s, may, Stepped (is ∙ write_alike kind lba block None s w))
   lost false clean w is once (inl at) = let own : FromOne true false kind lba block P n = (s, may, GaveWay (λ x. refl) clean is) in alike (FromOne true false kind lba block P) n e (at ∙ sym is) own
@@ -178,7 +180,7 @@ module _ (g : Geometry) (a : ℕ) (es : List CacheEvent) (x : Given) (old new : 
     ]
   ]
 
-  -- what gave way is gone, or was written
+  -- a block that gave way is gone, or was written
   lost_step : IsClean (get old.now a) → is_write x.kind ≡ true → (here : Bool) → get new.now a ≡ step_at here x.kind x.address x.block None → From false here x.kind x.address x.block (get old.now a) (get new.now a)
   lost_step clean w true is = Stepped (is ∙ write_alike x.kind x.address x.block None (get old.now a) w)
   lost_step clean w false is = GaveWay (λ answered. refl) clean is
@@ -208,7 +210,7 @@ mights_crashed a es old new after m = record {
   absent = λ n. at a new.durable old.durable after.durable ∙ sym (at a new.now old.durable after.now) ∙ n;
 }
 
--- from lists on where the address is absent
+-- beginning with lists in which the address is absent
 pub mights_from : (g : Geometry) (start : TwoLists) (es : List CacheEvent) (l : TwoLists) → LivedFrom g start es l → (a : ℕ) → Mights a [] start → Mights a es l
 mights_from g start [] l is a m = subst (λ (k : TwoLists). Mights a [] k) (sym is) m
 mights_from g start (Answered x ∷ es) l lived a m = mights_answered g a es x lived.0 l lived.2 (mights_from g start es lived.0 lived.1 a m)

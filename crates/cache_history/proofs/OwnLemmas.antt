@@ -1,4 +1,4 @@
--- What was written for its address stays so.
+-- A block that was written for its address still is.
 use Rattle.std.proofs.Common.{◌≡◌, Result, Ok, Err, IfOk, ℕ, ◌==◌, Bool, true, false, List, [], ◌∷◌, Option, Some, None, refl, sym, ◌∙◌, ap, subst, inl, inr, eqb-true}
 use Rattle.std.specs.FinMap.{get}
 use Rattle.ft_base.specs.declared.block.Block.{Block}

@@ -1,4 +1,4 @@
--- A command that was refused, and gave nothing up: the cache was full, or memory was wanting.
+-- A command that failed without giving the cache up: the cache was full, or there was no memory.
 use Rattle.std.proofs.Common.{◌≡◌, ℕ, false, List, Result, Ok, Err, OnErr, refl, sym, inl, ◌∙◌, ap, subst}
 use Rattle.std.specs.Prelude.{IsErrOf}
 use Rattle.std.proofs.lemmas.Bool.{false≢true}

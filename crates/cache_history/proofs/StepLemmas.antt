@@ -1,4 +1,4 @@
--- What a command makes of one address.
+-- How a command changes one address.
 use Rattle.std.proofs.Common.{◌≡◌, ℕ, ◌==◌, ◌&&◌, Bool, true, false, cond, Option, Some, None, refl, sym, ap}
 use Rattle.std.specs.Option.{option_map}
 use Rattle.std.specs.FinMap.{get}
@@ -11,7 +11,7 @@ use Rattle.cache_history.specs.declared.kind.Kind.{Kind}
 use Rattle.cache_history.specs.declared.kind.Kind.TheVariants.{WriteDirty, WriteClean, Evict, Clean, Commit, Checkpoint}
 use Rattle.cache_history.specs.History.{stepped_by, is_write, is_change, may_undirty}
 
--- of its own address
+-- the change at the command's own address
 abbrev pub step_of : Kind → ℕ → Block → Option Held → Option Held
 step_of WriteDirty lba block o = Some (written_block lba block true)
 step_of WriteClean lba block o = Some (written_block lba block false)
@@ -20,7 +20,7 @@ step_of Clean lba block o = option_map (marked_as false) o
 step_of Commit lba block o = o
 step_of Checkpoint lba block o = o
 
--- and of another it makes nothing
+-- no change at another address
 abbrev pub step_at : Bool → Kind → ℕ → Block → Option Held → Option Held
 step_at here kind lba block o = cond here (step_of kind lba block o) o
 
@@ -55,7 +55,7 @@ step_same true Clean lba block o f = absurd (cc)
 step_same true Commit lba block o f = refl
 step_same true Checkpoint lba block o f = refl
 
--- something is held, dirty
+-- a block is held, dirty
 abbrev pub IsDirty : Option Held → Type 0
 IsDirty o = (h : Held) × (o ≡ Some h) × (h.dirty ≡ true)
 
@@ -91,7 +91,7 @@ cleaned_block : (o : Option Held) (h : Held) → option_map (marked_as false) o 
 cleaned_block None h is = absurd (cc)
 cleaned_block (Some k) h is = let same : marked_as false k ≡ h = cc in (k, refl, ap (λ (x : Held). x.block) same)
 
--- and any other command the block that was held
+-- any other command keeps the block that was held
 pub step_older : (here : Bool) (kind : Kind) (lba : ℕ) (block : Block) (o : Option Held) (h : Held) → is_write kind && here ≡ false → step_at here kind lba block o ≡ Some h → HasBlock o h.block
 step_older false kind lba block o h f is = (h, is, refl)
 step_older true WriteDirty lba block o h f is = absurd (cc)

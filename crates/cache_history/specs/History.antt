@@ -1,4 +1,4 @@
--- What became of a cache, command by command, and the lists of held blocks that it may have then.
+-- The history of a cache, command by command, and the lists of held blocks that it may then have.
 use Rattle.std.specs.Prelude.{◌≡◌, ◌⊎◌, ℕ, ◌&&◌, ◌==◌, Bool, true, false, List, [], ◌∷◌, Option, None, Some}
 use Rattle.std.specs.List.{list_any}
 use Rattle.std.specs.FinMap.{get, empty}
@@ -10,7 +10,7 @@ use Rattle.ssc.specs.Commands.{IsHeldIn}
 use Rattle.cache_history.specs.declared.kind.Kind.{Kind}
 use Rattle.cache_history.specs.declared.kind.Kind.TheVariants.{WriteDirty, WriteClean, Evict, Clean, Commit, Checkpoint}
 
--- a command that is given; commit and checkpoint look at no address, and only writes at the block
+-- a command that is given; commit and checkpoint ignore the address, and only writes use the block
 pub record Given : Type 0 where
   pub kind : Kind
   pub address : ℕ
@@ -19,8 +19,8 @@ pub record Given : Type 0 where
 abbrev pub given : Kind → ℕ → Block → Given
 given kind address block = record { kind = kind; address = address; block = block }
 
--- it was answered Ok; or refused by a device or for want of power, and the cache opened again; or there was a crash between two
--- commands, and an opening
+-- a command answered `Ok`. Or it failed because of a device or of power, and the cache was opened again. Or there was a
+-- crash between two commands, and an opening
 pub data CacheEvent : Type 0 where
   Answered : Given → CacheEvent
   Refused : Given → CacheEvent
@@ -40,17 +40,17 @@ stepped_by Checkpoint a block s = s
 abbrev pub stepped : Given → CacheList → CacheList
 stepped x s = stepped_by x.kind x.address x.block s
 
--- the list that is held, and the one that a crash would leave
+-- the list that is held, and the list that a crash would leave
 pub record TwoLists : Type 0 where
   pub now : CacheList
   pub durable : CacheList
 
--- where nothing is buffered they are one
+-- if nothing is buffered, they are one list
 abbrev pub both_alike : CacheList → TwoLists
 both_alike s = record { now = s; durable = s }
 
--- a command of this kind is on the flash when it answers Ok, with all that was buffered: a clean write and an evict where the address
--- was held
+-- a command of this kind, with all buffered changes, is on the flash when it answers `Ok`. For a clean write and an
+-- evict this holds if the address was held
 abbrev pub IsAtOnce : Kind → ℕ → CacheList → Type 0
 IsAtOnce WriteDirty a s = Unit {0}
 IsAtOnce WriteClean a s = IsHeldIn s a
@@ -59,7 +59,8 @@ IsAtOnce Clean a s = ⊥
 IsAtOnce Commit a s = Unit {0}
 IsAtOnce Checkpoint a s = Unit {0}
 
--- what is left for the step of a command: a write may first let wholly clean groups go, and nothing gives way to another command
+-- the list that is left for the step of a command: a write may first let wholly clean groups go, and nothing gives way
+-- to another command
 abbrev pub LeftByKind : Geometry → Kind → ℕ → CacheList → CacheList → Type 0
 LeftByKind g WriteDirty a s v = Vanish g s a v
 LeftByKind g WriteClean a s v = Vanish g s a v
@@ -71,18 +72,18 @@ LeftByKind g Checkpoint a s v = v ≡ s
 abbrev pub LeftBy : Geometry → Given → CacheList → CacheList → Type 0
 LeftBy g x s v = LeftByKind g x.kind x.address s v
 
--- what a crash would leave at an address: nothing, where what was held there gave way; else as before
+-- the block that a crash would leave at an address: none if the held block gave way, else the old one
 abbrev pub unless_gone : Option Held → Option Held → Option Held → Option Held
 unless_gone (Some h) None before = None
 unless_gone (Some h) (Some kept) before = before
 unless_gone None left before = before
 
--- a crash would leave what it would have left before, but for what gave way
+-- a crash would leave what it would have left before, except for the blocks that gave way
 abbrev pub LosesAlike : TwoLists → CacheList → CacheList → Type 0
 LosesAlike old left durable = (a : ℕ) → get durable a ≡ unless_gone (get old.now a) (get left a) (get old.durable a)
 
--- after Ok the list is that of the step on what was left; and a crash would leave what it would have left before, but for what gave
--- way, or the list before the step or after it
+-- after `Ok` the step was made on the list that was left. A crash would leave the blocks that it would have left
+-- before, except for those that gave way. Or it would leave the list before the step or after it
 pub record AfterAnswer (g : Geometry) (x : Given) (old new : TwoLists) : Type 0 where
   pub left : CacheList
   pub left_by : LeftBy g x old.now left
@@ -90,14 +91,15 @@ pub record AfterAnswer (g : Geometry) (x : Given) (old new : TwoLists) : Type 0 
   pub durable : LosesAlike old left new.durable ⊎ (new.durable ≡ left) ⊎ (new.durable ≡ new.now)
   pub at_once : IsAtOnce x.kind x.address old.now → new.durable ≡ new.now
 
--- after a refusal and an opening the list is what a crash would have left before, or what was left for the step, before it or after it
+-- after an error and an opening, the list is the one that a crash would have left before. Or it is the list that was
+-- left for the step, before the step or after it
 pub record AfterRefusal (g : Geometry) (x : Given) (old new : TwoLists) : Type 0 where
   pub left : CacheList
   pub left_by : LeftBy g x old.now left
   pub now : (new.now ≡ old.durable) ⊎ (new.now ≡ left) ⊎ (new.now ≡ stepped x left)
   pub durable : new.durable ≡ new.now
 
--- after a crash and an opening it is what the crash left
+-- after a crash and an opening the list is the one that the crash left
 pub record AfterCrash (old new : TwoLists) : Type 0 where
   pub now : new.now ≡ old.durable
   pub durable : new.durable ≡ old.durable
@@ -107,16 +109,16 @@ After g (Answered x) old new = AfterAnswer g x old new
 After g (Refused x) old new = AfterRefusal g x old new
 After g Crashed old new = AfterCrash old new
 
--- the lists after these events, the newest first, from some lists on
+-- the lists after these events, the newest first, beginning with these lists
 abbrev pub LivedFrom : Geometry → TwoLists → List CacheEvent → TwoLists → Type 0
 LivedFrom g start [] l = l ≡ start
 LivedFrom g start (event ∷ events) l = (before : TwoLists) × LivedFrom g start events before × After g event before l
 
--- and from an empty cache on
+-- the lists after these events, beginning with an empty cache
 abbrev pub Lived : Geometry → List CacheEvent → TwoLists → Type 0
 Lived g events l = LivedFrom g (both_alike empty) events l
 
--- ---- which events are of an address
+-- ---- the events of an address
 
 abbrev pub is_write : Kind → Bool
 is_write WriteDirty = true
@@ -126,7 +128,7 @@ is_write Clean = false
 is_write Commit = false
 is_write Checkpoint = false
 
--- after a command of this kind the address may be held no more, or not dirty
+-- after a command of this kind the address may no longer be held, or not be dirty
 abbrev pub may_undirty : Kind → Bool
 may_undirty WriteDirty = false
 may_undirty WriteClean = true
@@ -147,17 +149,17 @@ is_change Checkpoint = false
 abbrev pub names : (Kind → Bool) → ℕ → Given → Bool
 names kinds a x = kinds x.kind && (a == x.address)
 
--- the event is of such a command, whatever it answered
+-- the event comes from such a command, whatever it answered
 abbrev pub concerns : (Kind → Bool) → ℕ → CacheEvent → Bool
 concerns kinds a (Answered x) = names kinds a x
 concerns kinds a (Refused x) = names kinds a x
 concerns kinds a Crashed = false
 
--- no event is
+-- no event is such a command
 abbrev pub NoneIs : (Kind → Bool) → ℕ → List CacheEvent → Type 0
 NoneIs kinds a events = list_any (concerns kinds a) events ≡ false
 
--- the block is that of the newest write of the address that was answered Ok, or of a later one that was refused
+-- the block of the newest write of the address that answered `Ok`, or of a later one that failed
 abbrev pub IsNewest : ℕ → Block → List CacheEvent → Type 0
 IsNewest a block [] = ⊥
 IsNewest a block (Answered x ∷ older) = ((names is_write a x ≡ true) × (block ≡ x.block))

@@ -1,4 +1,4 @@
--- A cache between two commands, and the lists that it has then.
+-- A cache between two commands, and the lists that it then has.
 use Rattle.std.specs.Prelude.{◌≡◌, ℕ, true, false, Result, OnErr, IsErrOf}
 use Rattle.ft_base.specs.Contents.{Contents}
 use Rattle.ft_media.specs.State.{State}
@@ -13,12 +13,12 @@ use Rattle.cache_history.specs.declared.kind.Kind.{Kind}
 use Rattle.cache_history.specs.declared.kind.Kind.TheVariants.{WriteDirty}
 use Rattle.cache_history.specs.History.{TwoLists, is_write}
 
--- the cache holds the first list; and the second is that without what is buffered
+-- the cache holds the first list; and the second is the first without the buffered changes
 pub record IsMoment (c : Ssc) (contents : Contents) (l : TwoLists) : Type 0 where
   pub holds : Holds c contents l.now
   pub durable : l.durable ≡ undo (pending c) l.now
 
--- Full and want of memory are no event: the lists and the media are as before. Each comes for its cause alone
+-- `Full` and `OutOfMemory` are no event: the lists and the media are unchanged. Each comes only for its own cause
 pub record IsNoEvent (old new : Ssc) (before after : State) (kind : Kind) (lba : ℕ) (result : Result (Unit {0}) SscError) : Type 0 where
   pub unchanged : OnErr result (stops result ≡ false → IsAsBefore old new × (after ≡ before))
   pub still : OnErr result (stops result ≡ false → (l : TwoLists) → IsMoment old before.contents l → IsMoment new after.contents l)

@@ -20,7 +20,7 @@ use ft_media::Media;
 use ssc::{OpenError, Scrub, Ssc, SscError};
 use std::alloc::Global;
 
-/// Gives a cache one command. Commit and checkpoint look at no address, and only writes at the block.
+/// Gives a cache one command. Commit and checkpoint ignore the address, and only writes use the block.
 pub fn give<M: Media>(
     cache: &mut Ssc,
     media: &mut M,
@@ -33,7 +33,7 @@ pub fn give<M: Media>(
     ensures geometry { geometry_of cache.new ≡ geometry_of cache.old }
     ensures answered { OnOk result ((l : TwoLists) → IsMoment cache.old (M.state media.old).contents l → (m : TwoLists)
         × AfterAnswer (geometry_of cache.old) (given kind lba block.now) l m × IsMoment cache.new (M.state media.new).contents m) }
-    // Whatever is answered, and wherever power went off.
+    // Whatever the call answers, and whenever power goes off.
     ensures images { (l : TwoLists) → IsMoment cache.old (M.state media.old).contents l → (x : Image) → Now (M.state media.new).contents x
         → (m : TwoLists) × AfterRefusal (geometry_of cache.old) (given kind lba block.now) l m
         × FlashStandsFor (geometry_of cache.old) x.page m.now }
@@ -54,7 +54,7 @@ pub fn give<M: Media>(
     }
 }
 
-/// Opens a cache on what a crash left. Refused or cut, the flash stands for what it stood for.
+/// Opens a cache on the flash that a crash left. If it fails or is cut, the flash still stands for the same list.
 pub fn reopen<M: Media>(alloc: Global, media: &mut M, geometry: &Geometry) -> Result<Ssc, OpenError>
     requires { FitsOn geometry.now (M.state media.old).contents.shape }
     ensures geometry { IfOk result (λ c. geometry_of c ≡ geometry.now) }

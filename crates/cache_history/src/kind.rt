@@ -5,11 +5,11 @@ pub enum Kind {
     WriteDirty,
     /// Holds a block at an address, clean.
     WriteClean,
-    /// Holds an address no more.
+    /// Stops holding an address.
     Evict,
     /// Marks the block of an address clean.
     Clean,
-    /// Puts what is buffered on the flash.
+    /// Puts the buffered changes on the flash.
     Commit,
     /// Makes a checkpoint.
     Checkpoint,

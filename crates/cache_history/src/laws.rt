@@ -1,4 +1,4 @@
-//! What holds of a cache after any commands, refusals, crashes and openings.
+//! Facts that hold of a cache after any commands, errors, crashes and openings.
 
 ghost use Rattle.std.specs.Prelude.{◌≡◌, ◌≤◌, ◌<◌, ◌+◌, ◌++◌, ◌∷◌, ℕ, None, Some, true, List, Contains};
 ghost use Rattle.std.specs.FinMap.{get};
@@ -14,31 +14,31 @@ ghost use Rattle.cache_history.specs.declared.kind.Kind.TheVariants.{Evict, Writ
 ghost use Rattle.cache_history.specs.History.{CacheEvent, Answered, TwoLists, Lived, LivedFrom, NoneIs, IsNewest, given, is_write, is_change, may_undirty};
 ghost use Rattle.cache_history.specs.Moment.{IsMoment};
 
-/// Over all that may become of a cache, from an empty one on: commands that were answered, commands
-/// that were refused by a device or for want of power, crashes between two commands, and openings.
+/// The laws hold over the whole history of a cache that begins empty. Its events are commands that answered `Ok`,
+/// commands that failed because of a device or of power, crashes between two commands, and openings.
 pub fn history_laws()
-    // An address whose evict was answered Ok is absent until a write of it is given again.
+    // An address whose evict answered `Ok` is absent until a write of it is given again.
     ensures evicted_stays_absent { (g : Geometry) (later before : List CacheEvent) (l : TwoLists) (a : ℕ) (b : Block)
         → Lived g (later ++ Answered (given Evict a b) ∷ before) l → NoneIs is_write a later → get l.now a ≡ None }
-    // An address that is absent stays absent until a write of it is given, whatever becomes of the cache.
+    // An absent address stays absent until a write of it is given, whatever else happens to the cache.
     ensures absent_stays { (g : Geometry) (before later : List CacheEvent) (l m : TwoLists) (a : ℕ) → Lived g before l → get l.now a ≡ None
         → LivedFrom g l later m → NoneIs is_write a later → get m.now a ≡ None }
-    // A block whose dirty write was answered Ok is held, dirty, until a write, an evict or a clean of
-    // its address is given, whatever that answers.
+    // A block whose dirty write answered `Ok` is held, dirty, until a write, an evict or a clean of its address is
+    // given, whatever that answers.
     ensures dirty_stays { (g : Geometry) (later before : List CacheEvent) (l : TwoLists) (a : ℕ) (b : Block)
         → Lived g (later ++ Answered (given WriteDirty a b) ∷ before) l → NoneIs is_change a later
         → get l.now a ≡ Some (written_block a b true) }
-    // What is held at an address is the block of the newest write of it that was answered Ok, or of a
-    // later one that was refused, and never an older one.
+    // The held block of an address comes from the newest write of it that answered `Ok`, or from a later one that
+    // failed. It never comes from an older one.
     ensures newest_is_held { (g : Geometry) (events : List CacheEvent) (l : TwoLists) (a : ℕ) (h : Held) → Lived g events l
         → get l.now a ≡ Some h → IsNewest a h.block events }
-    // After a dirty write of an address that was answered Ok it is listed as dirty, with whatever
-    // block, until a clean write, an evict or a clean of it is given, whatever that answers.
+    // After a dirty write of an address answered `Ok`, the address is listed as dirty, with whatever block. This ends
+    // when a clean write, an evict or a clean of it is given, whatever that answers.
     ensures dirty_is_listed { (g : Geometry) (later before : List CacheEvent) (l : TwoLists) (a : ℕ) (b : Block) (from count : ℕ)
         → Lived g (later ++ Answered (given WriteDirty a b) ∷ before) l → NoneIs may_undirty a later → from ≤ a → a < from + count
         → Contains (dirty_between from count l.now) a }
-    // Where each block that is held has the spare bytes of a data page of its address, and each that a
-    // crash would leave, that is so whatever becomes of the cache.
+    // Suppose that each held block, and each block that a crash would leave, has the spare bytes of a data page of its
+    // address. Then this stays true, whatever happens to the cache.
     ensures own_stays { (g : Geometry) (start l : TwoLists) (events : List CacheEvent) → LivedFrom g start events l → AreOwn start.now
         → AreOwn start.durable → AreOwn l.now × AreOwn l.durable }
     // Between two commands a crash leaves the second list.

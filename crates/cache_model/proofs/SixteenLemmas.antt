@@ -22,7 +22,7 @@ digits_sum : (q0 q1 q2 q3 q4 q5 q6 q7 q8 q9 q10 q11 q12 q13 q14 q15 r0 r1 r2 r3 
     → r15 * 256 ^ 15 + r14 * 256 ^ 14 + r13 * 256 ^ 13 + r12 * 256 ^ 12 + r11 * 256 ^ 11 + r10 * 256 ^ 10 + r9 * 256 ^ 9 + r8 * 256 ^ 8 + r7 * 256 ^ 7 + r6 * 256 ^ 6 + r5 * 256 ^ 5 + r4 * 256 ^ 4 + r3 * 256 ^ 3 + r2 * 256 ^ 2 + r1 * 256 ^ 1 + r0 ≡ q0
 digits_sum q0 q1 q2 q3 q4 q5 q6 q7 q8 q9 q10 q11 q12 q13 q14 q15 r0 r1 r2 r3 r4 r5 r6 r7 r8 r9 r10 r11 r12 r13 r14 r15 h0 h1 h2 h3 h4 h5 h6 h7 h8 h9 h10 h11 h12 h13 h14 h15 = omega arith
 
--- a number of 16 bytes is read as it is spelled; each byte is what a division by 256 leaves
+-- a number of 16 bytes is read as it is spelled; each byte is the remainder of a division by 256
 pub sixteen : (n : ℕ) → n < 2 ^ 128 → from_be_bytes w128 (to_be_bytes w128 n) ≡ n
 sixteen n fits =
     let s0 : n ≡ n / 256 * 256 + n % 256 = omega arith in

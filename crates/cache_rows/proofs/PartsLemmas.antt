@@ -1,4 +1,4 @@
--- The parts of a cache on their flash, as the tests of merges have them.
+-- The parts of a cache on their flash, as the tests of merges use them.
 use Rattle.std.proofs.Common.{◌≡◌, ◌≢◌, ℕ, sym, ◌∙◌, ap, subst, arith}
 use Rattle.ft_base.specs.declared.geometry.Geometry.{Geometry}
 use Rattle.ft_base.specs.Contents.{Contents}
@@ -30,7 +30,7 @@ formatted_agree parts contents g of_one own shape none log begins roles sound cl
   open_log = subst (λ (l : LogValue). IsOpenLog contents.flash l) (sym log) begins.opened;
 }
 
--- a group of which pages are held
+-- a group with held pages
 pub some_held : (parts : Parts) (group bits : ℕ) → AreOfOne parts → bits ≡ chosen_of Held parts.map.geometry parts.map.entries group → bits ≢ 0 → IsGroupHeld parts.geometry parts.map.entries group
 some_held parts group bits of_one is some =
     let at = chosen_some parts.geometry parts.map.entries group Held (λ none. some (is ∙ ap (λ (h : Geometry). chosen_of Held h parts.map.entries group) of_one.map ∙ none)) in

@@ -17,14 +17,14 @@ use Rattle.cache_rows.specs.Fits.{FitTogether}
 up_same : (c d : Ssc) (a b : State) → (d ≡ c) × (b ≡ a) → IsUp c a.contents → IsUp d b.contents
 up_same c d a b is up = subst (λ (v : Ssc). IsUp v b.contents) (sym is.0) (subst (λ (k : State). IsUp c k.contents) (sym is.1) up)
 
--- where memory is wanting nothing that is held changes
+-- out of memory changes no held block
 abbrev StillHolds : Ssc → Ssc → State → State → Type 0
 StillHolds c d a b = (b ≡ a) × ((contents : Contents) (list : CacheList) → Holds c contents list → Holds d contents list)
 
 up_still : (c d : Ssc) (a b : State) → StillHolds c d a b → IsUp c a.contents → d.stopped ≡ false → IsUp d b.contents
 up_still c d a b still up going = subst (λ (k : State). IsUp d k.contents) (sym still.0) (record { list = up.list; holds = still.1 a.contents up.list up.holds; up = going })
 
--- after Ok it holds some list
+-- after `Ok` the cache holds some list
 abbrev HoldsSome : Ssc → Contents → Type 0
 HoldsSome c contents = (list : CacheList) × Holds c contents list
 
@@ -46,7 +46,7 @@ in_size going c contents lba fit below = subst (λ (n : ℕ). lba < n) (sym fit.
 same_size : (c d : Ssc) → geometry_of d ≡ geometry_of c → (geometry_of c).size ≡ 64 → (geometry_of d).size ≡ 64
 same_size c d same is = ap (λ (g : Geometry). g.size) same ∙ is
 
--- after it they may, unless it stopped the cache
+-- commands may be given after it, unless it stopped the cache
 going_on : (stopped : Bool) (d : Ssc) → stopped ≡ d.stopped → not stopped ≡ true → d.stopped ≡ false
 going_on false d is going = sym is
 going_on true d is going = absurd (false≢true going)

@@ -19,7 +19,7 @@ use ssc::{Scrub, Ssc, SscError};
 use std::alloc::Global;
 use std::marker::Model;
 
-/// The addresses of the disk.
+/// How many addresses the disk has.
 pub(crate) const SIZE: u64 = 64;
 
 /// Erase blocks of 4 pages, with at most two dirty groups. The flash has 9 erase blocks.
@@ -35,7 +35,7 @@ pub(crate) fn geometry() -> Geometry
     }
 }
 
-/// Gives the rig as many erase blocks, pages and disk blocks as a cache has.
+/// Gives the rig as many erase blocks, pages and disk blocks as a cache needs.
 pub(crate) fn fit(alloc: Global, rig: &mut MemRig, geometry: &Geometry) -> bool {
     rig.fit_anew(alloc, geometry.blocks(), geometry.p(), geometry.size())
         .is_ok()
@@ -51,12 +51,12 @@ pub(crate) fn fits_on(rig: &MemRig, geometry: &Geometry) -> bool
     rig.disk_blocks() >= geometry.size()
 }
 
-/// Makes the flash that of an empty cache.
+/// Formats the flash for an empty cache.
 pub(crate) fn format(rig: &mut MemRig, geometry: &Geometry) -> bool {
     fits_on(rig, geometry) && Ssc::format(rig, geometry).is_ok()
 }
 
-/// Opens the flash. Where it doesn't fit that is told as a fault of the disk, which no opening meets.
+/// Opens the flash. If it doesn't fit, the answer is a fault of the disk, which no opening meets.
 pub(crate) fn opened(alloc: Global, rig: &mut MemRig, geometry: &Geometry) -> Result<Ssc, OpenError>
     ensures up { IfOk result (λ cache. IsUp cache (state_of rig.new).contents) }
     ensures geometry { IfOk result (λ cache. geometry_of cache ≡ geometry.now) }
@@ -72,7 +72,7 @@ pub(crate) fn refusal(alloc: Global, rig: &mut MemRig, geometry: &Geometry) -> O
     opened(alloc, rig, geometry).err()
 }
 
-/// An empty cache, for which the rig is fitted and its flash is made.
+/// An empty cache on a rig that was made and formatted for it.
 fn emptied(alloc: Global, rig: &mut MemRig) -> Result<Ssc, OpenError>
     ensures up { IfOk result (λ cache. IsUp cache (state_of rig.new).contents) }
     ensures size { IfOk result (λ cache. (geometry_of cache).size ≡ 64) }
@@ -95,7 +95,7 @@ fn arm(rig: &mut MemRig, number: u64, outcome: Outcome) -> bool
     true
 }
 
-/// Writes a block to the disk, and flushes it. The flash stays as it is.
+/// Writes a block to the disk, and flushes it. The flash is unchanged.
 fn write_disk(rig: &mut MemRig, lba: u64, block: &Block) -> bool
     requires { lba < (state_of rig.old).contents.shape.size }
     ensures shape { (state_of rig.new).contents.shape ≡ (state_of rig.old).contents.shape }
@@ -104,7 +104,7 @@ fn write_disk(rig: &mut MemRig, lba: u64, block: &Block) -> bool
     rig.write_block(lba, block).is_ok() && rig.flush_disk().is_ok()
 }
 
-/// The header of the first page of an erase block, where the page is whole and begins with one.
+/// The header of the first page of an erase block, if the page is whole and begins with one.
 pub(crate) fn first_header(rig: &mut MemRig, block: u32) -> Option<Header>
     ensures { (state_of rig.new).contents ≡ (state_of rig.old).contents }
 {
@@ -144,7 +144,7 @@ fn marks_of(listed: &[u64]) -> [bool; 16] {
     marks
 }
 
-/// What can be seen of a cache.
+/// A fact that can be seen of a cache.
 #[derive(Clone, Copy)]
 pub(crate) enum Fact {
     /// How many groups have a dirty block.
@@ -168,39 +168,39 @@ pub(crate) enum Line {
     Do(Step),
     /// Clean writes of these addresses with a tag, which are carried out.
     WriteAll(&'static [u64], u64),
-    /// A command that is carried out; the pages left in the open block and in the log before it; its programs
+    /// A command that is carried out, how many pages the open block and the log had left before it, and its programs
     /// and erases.
     Makes(Step, u32, u32, u64, u64),
-    /// A command that is refused, and changes no count of the rig, since so many groups would be dirty, where
-    /// so many may be.
+    /// A command that answers `Full`, and changes no count of the rig. This many groups would be dirty, and that many
+    /// may be.
     Full(Step, u32, u32),
-    /// A block goes to the disk.
+    /// A block is written to the disk.
     WriteDisk(u64, u64),
     /// Power is cut, and the flash is opened.
     Cut,
-    /// The flash has these contents in format 1, and this is what they hold. It isn't opened.
+    /// The flash has these contents in format 1, and holds these blocks. It isn't opened.
     Old(&'static Old, &'static [(u64, Held)]),
     /// The flash is opened.
     Open,
-    /// It is opened, and the device write of this number is cut so.
+    /// The flash is opened, and the device write of this number is cut with this outcome.
     CutOpening(u64, Outcome),
     /// The first page of a block has a header of this format and era.
     Heads(u32, u8, u8),
     /// The memory of the next write is taken.
     Reserve,
-    /// What the plain list has is held, and nothing else.
+    /// The cache holds exactly the blocks of the plain list.
     HoldsAll,
-    /// Nothing else is held, and some of it isn't, but something of two groups at least, and this address.
+    /// The cache holds only some blocks of the plain list, but some of at least two groups, and this address.
     HoldsLess(u64),
-    /// This is seen.
+    /// This fact is seen.
     See(Fact),
-    /// The dirty addresses of so many from one on are put behind 60, which gives these.
+    /// The dirty addresses among this many from one on are put behind 60, which gives this list.
     Lists(u64, u64, &'static [u64]),
-    /// A scrub reads so many pages, of which none is strange.
+    /// A scrub reads this many pages, and none is strange.
     Scrubs(u64),
 }
 
-/// A cache, the rig that it is on, and what it must hold.
+/// A cache, its rig, and the blocks that it must hold.
 #[derive(Drop)]
 pub(crate) struct Bench {
     alloc: Global,
@@ -230,7 +230,7 @@ impl Bench {
         Bench::on(alloc, MemRig::new(alloc))
     }
 
-    /// An empty cache, on flash of which the call of a number will fail.
+    /// An empty cache, on flash in which the call of a number will fail.
     pub(crate) fn failing(alloc: Global, number: u64) -> Option<Bench> {
         match [number].to_vec(alloc) {
             Ok(flash) => Bench::on(alloc, MemRig::failing(alloc, flash, Vec::new(alloc))),
@@ -276,7 +276,7 @@ impl Bench {
         refusal(self.alloc, &mut self.rig, &geometry()) == Some(OpenError::PowerLost)
     }
 
-    /// Gives the flash these contents in format 1, which hold this, and doesn't open it.
+    /// Gives the flash these contents in format 1, which hold these blocks, and doesn't open it.
     pub(crate) fn put_old(&mut self, old: &Old, held: &[(u64, Held)]) -> bool {
         self.going = false;
         self.lists = lists_of(held);
@@ -360,7 +360,7 @@ impl Bench {
         answer
     }
 
-    /// Gives the cache a command. None where it takes none, or there is no such address.
+    /// Gives the cache a command. `None` if it takes no command, or there is no such address.
     fn give(&mut self, step: &Step) -> Option<Result<(), SscError>> {
         if !self.going {
             return None;
@@ -376,7 +376,7 @@ impl Bench {
         }
     }
 
-    /// Gives the cache a command. Whether it carries it out.
+    /// Gives the cache a command. Answers whether it was carried out.
     fn does(&mut self, step: &Step) -> bool {
         match self.give(step) {
             Some(Ok(())) => {
@@ -387,7 +387,7 @@ impl Bench {
         }
     }
 
-    /// Gives the cache these commands. Whether it carries all of them out.
+    /// Gives the cache these commands. Answers whether all were carried out.
     pub(crate) fn run(&mut self, steps: &[Step]) -> bool {
         for step in steps {
             if !self.does(step) {
@@ -397,7 +397,7 @@ impl Bench {
         true
     }
 
-    /// The same of clean writes of these addresses with a tag.
+    /// The same for clean writes of these addresses with a tag.
     fn write_all(&mut self, addresses: &[u64], tag: u64) -> bool {
         for lba in addresses {
             if !self.does(&Step::WriteClean(*lba, tag)) {
@@ -407,7 +407,7 @@ impl Bench {
         true
     }
 
-    /// Gives the cache these commands until one of them stops it. Says how many did not.
+    /// Gives the cache these commands until one of them stops it. Answers how many did not.
     pub(crate) fn given_until_stopped(&mut self, steps: &[Step]) -> usize {
         for i in 0..steps.len() {
             let _ = self.give(&steps[i]);
@@ -418,7 +418,7 @@ impl Bench {
         steps.len()
     }
 
-    /// Whether a command finds so much room, and makes so many device writes.
+    /// Whether a command finds this much room, and makes this many device writes.
     fn makes(&mut self, step: &Step, rooms: [u32; 2], writes: [u64; 2]) -> bool {
         let found = [self.cache.open_room(), self.cache.log_room()];
         let old = self.rig.done();
@@ -431,7 +431,7 @@ impl Bench {
         found == rooms && [programs, erases] == writes
     }
 
-    /// Whether a command is refused as full, and changes no count of the rig.
+    /// Whether a command answers `Full`, and changes no count of the rig.
     fn is_full(&mut self, step: &Step, dirty_groups: u32, limit: u32) -> bool {
         let counts = self.rig.done();
         let refused = SscError::Full {
@@ -451,9 +451,9 @@ impl Bench {
         self.going
     }
 
-    // ---- what is seen
+    // ---- facts that are seen
 
-    /// What an address holds. None where that can't be read, or is the block of another address.
+    /// The block that an address holds. `None` if it can't be read, or is the block of another address.
     fn read(&mut self, lba: u64, is_dirty: bool) -> Option<Held>
         requires lba { lba < 64 }
     {
@@ -477,7 +477,7 @@ impl Bench {
         }
     }
 
-    /// What the cache holds at the addresses of the tests.
+    /// The blocks that the cache holds at the addresses of the tests.
     fn seen(&mut self) -> Option<Plain> {
         let dirty = self.dirty()?;
         let mut plain = Plain([Held::Nothing; 16]);
@@ -487,7 +487,7 @@ impl Bench {
         Some(plain)
     }
 
-    /// Whether what must be held is held, and nothing else.
+    /// Whether the cache holds exactly the blocks that it must hold.
     pub(crate) fn holds_all(&mut self) -> bool {
         match self.seen() {
             Some(found) => found.0 == self.lists.now.0,
@@ -495,7 +495,7 @@ impl Bench {
         }
     }
 
-    /// Whether some of it isn't, but something of two groups at least, and this address is.
+    /// Whether it lacks some of them, but holds some of at least two groups, and this address.
     fn holds_less(&mut self, lba: u64) -> bool {
         match self.seen() {
             Some(found) => {
@@ -507,7 +507,7 @@ impl Bench {
         }
     }
 
-    /// Whether what is held may be left where the command after so many of these was cut.
+    /// Whether the held blocks may be left if the command after `given` of these was cut.
     pub(crate) fn is_left(&mut self, steps: &[Step], given: usize, gives_way: bool) -> bool {
         match self.seen() {
             Some(found) => may_be_left(&self.lists, steps, given, &found, gives_way),
@@ -515,7 +515,7 @@ impl Bench {
         }
     }
 
-    /// Whether these are the dirty addresses of so many from one on, put behind 60.
+    /// Whether these are the dirty addresses among `count` from `from` on, put behind 60.
     fn lists_dirty(&self, from: u64, count: u64, wanted: &[u64]) -> bool {
         let mut listed = Vec::new(self.alloc);
         if from > SIZE || count > SIZE - from || listed.push(60).is_err() {
@@ -524,7 +524,7 @@ impl Bench {
         self.cache.exists(from, count, &mut listed).is_ok() && listed.as_slice() == wanted
     }
 
-    /// Whether a scrub reads so many pages, of which none is strange.
+    /// Whether a scrub reads this many pages, and none is strange.
     fn scrubs(&mut self, pages: u64) -> bool {
         if !self.going {
             return false;
@@ -550,7 +550,7 @@ impl Bench {
         }
     }
 
-    /// Whether a line is so.
+    /// Whether a line holds.
     fn is_so(&mut self, line: &Line) -> bool {
         match line {
             Line::Do(step) => self.does(step),
@@ -574,7 +574,7 @@ impl Bench {
         }
     }
 
-    /// The first line that isn't so, once these commands were carried out.
+    /// The first line that doesn't hold, once these commands were carried out.
     fn first_wrong(&mut self, begun: &[Step], lines: &[Line]) -> Option<usize> {
         if !self.run(begun) {
             return Some(lines.len());
@@ -588,7 +588,7 @@ impl Bench {
     }
 }
 
-/// The first line that isn't so, over an empty cache that carried these commands out; where it couldn't, the
+/// The first line that doesn't hold, over an empty cache that carried these commands out. If it couldn't, it is the
 /// number of lines.
 pub(crate) fn first_wrong(alloc: Global, begun: &[Step], lines: &[Line]) -> Option<usize> {
     match Bench::new(alloc) {

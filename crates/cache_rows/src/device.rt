@@ -1,5 +1,5 @@
-//! The six commands of the cache: what it holds before a cut and after it, what it refuses, what it lists, and
-//! how much it writes.
+//! The six commands of the cache: what it holds before a cut and after it, what it refuses, what it lists, and how much
+//! it writes.
 
 use crate::bench::{Fact, Line, SIZE, first_wrong};
 use crate::lists::Step;
@@ -14,7 +14,7 @@ const Z: u64 = 3;
 
 // ---- before and after a cut
 
-/// A dirty block is written back and marked clean. The cut undoes that.
+/// A dirty block is written back and marked clean. The cut undoes the mark.
 const WRITTEN_BACK: [Line; 6] = [
     Line::Do(Step::WriteDirty(6, X)),
     Line::WriteDisk(6, X),
@@ -29,7 +29,7 @@ fn a_cut_may_make_a_block_dirty_again(rt: HostRuntime) {
     assert_eq!(rt; first_wrong(rt.alloc(), &[], &WRITTEN_BACK), None);
 }
 
-/// What any history is followed by. A cut leaves what isn't buffered.
+/// The lines that follow each history. A cut leaves all but the buffered changes.
 const TWO_CUTS: [Line; 6] = [
     Line::HoldsAll,
     Line::Cut,
@@ -39,7 +39,7 @@ const TWO_CUTS: [Line; 6] = [
     Line::HoldsAll,
 ];
 
-/// The first history with a line that isn't so after it, and that line.
+/// The first history that is followed by a line that doesn't hold, and that line.
 fn first_differing(alloc: Global, histories: &[&[Step]]) -> Option<(usize, usize)> {
     for i in 0..histories.len() {
         if let Some(line) = first_wrong(alloc, histories[i], &TWO_CUTS) {
@@ -50,7 +50,7 @@ fn first_differing(alloc: Global, histories: &[&[Step]]) -> Option<(usize, usize
 }
 
 const HISTORIES: [&[Step]; 6] = [
-    // Room by a clean.
+    // A clean makes room.
     &[
         Step::WriteDirty(0, X),
         Step::WriteDirty(4, Y),

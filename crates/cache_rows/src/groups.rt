@@ -1,4 +1,4 @@
-//! Merges on the parts of a cache: where its pages lie afterwards, and what a merge writes.
+//! Merges on the parts of a cache: the places of its pages afterwards, and what a merge writes.
 
 use crate::parts::{Fact, Line, Step, first_wrong};
 use block_pool::Role;
@@ -248,9 +248,9 @@ fn the_oldest_log_block_becomes_a_data_block(rt: HostRuntime) {
     );
 }
 
-// ---- no data block to be had, and nothing to be copied
+// ---- no data block is available, and no page is copied
 
-/// Both data blocks are of dirty groups, so the clean group that wants a third one goes itself.
+/// Both data blocks belong to dirty groups, so the clean group that needs a third one is dropped itself.
 const DROPPED: [Line; 12] = [
     Line::Do(Step::Put(0, 1, true)),
     Line::Do(Step::Merge(0)),
@@ -279,7 +279,7 @@ fn a_group_goes_itself_where_no_other_may(rt: HostRuntime) {
     assert_eq!(rt; first_wrong(rt.alloc(), &[], &DROPPED), None);
 }
 
-/// Each page of the first log block is an older one.
+/// Each page of the first log block is outdated.
 const WRITTEN_TWICE: [Step; 9] = [
     Step::Put(0, 1, true),
     Step::Put(1, 1, true),
@@ -296,7 +296,7 @@ const EMPTY_LOG_BLOCK: [Line; 8] = [
     Line::See(Fact::LogBlocks { used: 2, room: 0 }),
     Line::Count,
     Line::Do(Step::Put(4, 1, true)),
-    // A block is taken, and its first page programmed: nothing is merged.
+    // A block is taken, and its first page is programmed; no group is merged.
     Line::Wrote(1, 1),
     Line::See(Fact::Lies(4, 6, 0)),
     Line::See(Fact::Lies(0, 5, 0)),

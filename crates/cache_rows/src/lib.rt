@@ -1,8 +1,9 @@
-//! Worked examples of the cache's commands, over media that are cut: what it holds before a cut and after it,
-//! what it refuses, how much it writes, and which groups give way; how flash of format 1, and flash that somebody else
-//! wrote, is taken over; and of the merges below them: where pages lie, and what a merge writes.
+//! Worked examples of the cache's commands, over media that are cut: what the cache holds before a cut and after it,
+//! what it refuses, and how much it writes. Also which groups give way, and how flash of format 1, and flash that
+//! somebody else wrote, is taken over. The merges below the commands are here too: the places of pages, and what a merge
+//! writes.
 //!
-//! No layer stands on this crate; it has tests alone.
+//! No layer uses this crate; it has only tests.
 #![tactic(auto)]
 
 #[cfg(test)]

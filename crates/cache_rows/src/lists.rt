@@ -1,4 +1,4 @@
-//! The cache as a plain list: what each command makes of it, and what a cut may leave.
+//! The cache as a plain list: how each command changes it, and the list that a cut may leave.
 ghost use Rattle.std.specs.Prelude.{◌<◌};
 
 /// A command, with its address, and the tag of the block that it writes.
@@ -12,7 +12,7 @@ pub(crate) enum Step {
     Checkpoint,
 }
 
-/// What an address holds: nothing, or a block with a tag.
+/// The content of an address: none, or a block with a tag.
 #[derive(Clone, Copy, PartialEq, Eq)]
 pub(crate) enum Held {
     Nothing,
@@ -20,11 +20,11 @@ pub(crate) enum Held {
     Dirty(u64),
 }
 
-/// What each address holds, from 0 on.
+/// The content of each address, from 0 on.
 #[derive(Clone, Copy)]
 pub(crate) struct Plain(pub(crate) [Held; 16]);
 
-/// A list, and what of it a crash leaves.
+/// A list, and the list that a crash leaves of it.
 #[derive(Clone, Copy)]
 pub(crate) struct Lists {
     pub(crate) now: Plain,
@@ -36,7 +36,7 @@ pub(crate) const NOTHING: Lists = Lists {
     durable: Plain([Held::Nothing; 16]),
 };
 
-/// The list of what these addresses hold. A crash leaves all of it.
+/// The list with these contents. A crash leaves all of it.
 pub(crate) fn lists_of(held: &[(u64, Held)]) -> Lists {
     let mut now = NOTHING.now;
     for (lba, one) in held {
@@ -56,7 +56,7 @@ fn lba_of(step: &Step) -> u64 {
     }
 }
 
-/// What an address holds after a command.
+/// The content of an address after a command.
 fn held_after(old: Held, step: &Step) -> Held {
     match *step {
         Step::WriteDirty(_, tag) => Held::Dirty(tag),
@@ -74,7 +74,7 @@ fn cleaned(old: Held) -> Held {
     }
 }
 
-/// Whether a command leaves nothing that a crash may undo.
+/// Whether after a command a crash can undo nothing.
 fn commits(old: Held, step: &Step) -> bool {
     match *step {
         Step::WriteDirty(_, _) | Step::Commit | Step::Checkpoint => true,
@@ -83,7 +83,7 @@ fn commits(old: Held, step: &Step) -> bool {
     }
 }
 
-/// Gives the lists a command that answers Ok.
+/// Gives the lists a command that answers `Ok`.
 pub(crate) fn give(lists: &mut Lists, step: &Step) {
     let at = lba_of(step) as usize % 16;
     let old = lists.now.0[at];
@@ -93,8 +93,8 @@ pub(crate) fn give(lists: &mut Lists, step: &Step) {
     }
 }
 
-/// Whether this may be left where the command after so many was cut: the list before it without what was
-/// buffered, that list, or the list after it.
+/// Whether this list may be left if the command after `given` of these was cut. It is the list before the command
+/// without the buffered changes, that list, or the list after the command.
 pub(crate) fn may_be_left(
     lists: &Lists,
     steps: &[Step],
@@ -124,7 +124,7 @@ fn is_left(list: &Plain, found: &Plain, gives_way: bool) -> bool {
     list.0 == found.0
 }
 
-/// Whether each group is as in the list, or is gone and had nothing dirty.
+/// Whether each group is as in the list, or is gone and had no dirty address.
 fn gave_way(list: &Plain, found: &Plain) -> bool {
     for group in 0..4 {
         if !is_group_left(list, found, group) && !is_group_gone(list, found, group) {
@@ -163,7 +163,7 @@ fn is_dirty(held: Held) -> bool {
     }
 }
 
-/// Whether nothing is held but what is in the list, and not all of that.
+/// Whether only blocks of the list are held, and not all of them.
 pub(crate) fn is_less(list: &Plain, found: &Plain) -> bool {
     for at in 0..16 {
         if found.0[at] != Held::Nothing && found.0[at] != list.0[at] {
@@ -173,7 +173,7 @@ pub(crate) fn is_less(list: &Plain, found: &Plain) -> bool {
     list.0 != found.0
 }
 
-/// Of how many groups something is held.
+/// How many groups have a held address.
 pub(crate) fn groups_held(found: &Plain) -> u32 {
     let mut count: u32 = 0;
     for group in 0..4 {

@@ -1,5 +1,5 @@
-//! Flash in format 1 that is opened: its blocks are held, a checkpoint of format 2 is made, and a cut within leaves
-//! what was held.
+//! Flash in format 1 that is opened: its blocks are held, and a checkpoint of format 2 is made. A cut within the
+//! opening leaves the same blocks.
 
 use crate::bench::{Bench, Line, SIZE, first_wrong};
 use crate::lists::{Held, Step};
@@ -7,14 +7,14 @@ use ft_base::{Outcome, Place, Record};
 use plain_format::{Old, Placed};
 use std::alloc::Global;
 
-/// Contents, what they hold, and how many device writes an opening makes.
+/// Contents, the blocks that they hold, and how many device writes an opening makes.
 struct Example {
     old: Old,
     held: &'static [(u64, Held)],
     writes: u64,
 }
 
-// A page has the block of its address with a tag that is 256 times its erase block, and its number more.
+// A page has the block of its address. The tag is 256 times the number of its erase block, plus its own number.
 
 const ONE_PAGE: Old = Old {
     region: 0,
@@ -178,7 +178,7 @@ const EXAMPLES: [Example; 10] = [
         held: &[(5, Held::Dirty(1026)), (6, Held::Dirty(1025))],
         writes: 4,
     },
-    // As many map pages as a region has beside its seal.
+    // As many map pages as a region has room for beside its seal.
     Example {
         old: Old {
             region: 1,
@@ -273,7 +273,7 @@ fn an_opening_that_is_cut_at_its_seal_is_undone(rt: HostRuntime) {
 
 // ---- cuts
 
-/// Whether openings are cut at these device writes, and what was held is held after the next one.
+/// Whether the same blocks are held after openings that are cut at these device writes and one that isn't.
 fn is_kept(bench: &mut Bench, example: &Example, numbers: &[u64], outcome: Outcome) -> bool {
     if !bench.put_old(&example.old, example.held) {
         return false;
@@ -296,7 +296,7 @@ fn keeps_once(bench: &mut Bench, example: &Example, outcome: Outcome) -> bool {
     true
 }
 
-/// The same of three openings one after another, of which the second is cut at this device write.
+/// The same for three openings one after another; the second is cut at this device write.
 fn keeps_thrice(bench: &mut Bench, example: &Example, second: u64, outcome: Outcome) -> bool {
     for number in 1..=example.writes {
         let numbers = [number, second, number];
@@ -320,7 +320,7 @@ fn keeps_all(bench: &mut Bench, example: &Example, outcome: Outcome) -> bool {
     true
 }
 
-/// The first example of which cuts with this outcome lose something.
+/// The first example in which cuts with this outcome lose something.
 fn first_lost(alloc: Global, outcome: Outcome) -> Option<usize> {
     let Some(bench) = Bench::new(alloc) else {
         return Some(0);

@@ -1,4 +1,4 @@
-//! The parts of a cache on a rig in memory: the steps that the tests make, and what they see of them.
+//! The parts of a cache on a rig in memory: the steps that the tests make, and the facts that they see.
 
 ghost use Rattle.std.specs.Prelude.{◌≡◌, ◌<◌, ◌≤◌, true, IfSome, length};
 ghost use Rattle.std.specs.Bool.{OnTrue};
@@ -26,26 +26,26 @@ use std::alloc::Global;
 /// One step on a cache.
 #[derive(Clone, Copy)]
 pub(crate) enum Step {
-    /// Appends a pattern of an address with a tag, and puts the address there, dirty or clean.
+    /// Appends the pattern of an address with a tag, and puts the address there, dirty or clean.
     Put(u64, u64, bool),
     /// Takes an address out.
     TakeOut(u64),
     /// Marks an address clean.
     MarkClean(u64),
-    /// Puts all that is buffered on the flash.
+    /// Puts all buffered changes on the flash.
     Commit,
     /// Makes a checkpoint.
     Checkpoint,
-    /// Merges a group of which something is held.
+    /// Merges a group with a held address.
     Merge(u64),
     /// Frees the log block that was taken first.
     FreeOldest,
 }
 
-/// What can be seen of a cache.
+/// A fact that can be seen of a cache.
 #[derive(Clone, Copy)]
 pub(crate) enum Fact {
-    /// What a block of the pool is used for.
+    /// The role of a block of the pool.
     Used(u32, Role),
     /// The data block of a group, the pages that are present in it, and the dirty ones.
     DataBlock {
@@ -54,7 +54,7 @@ pub(crate) enum Fact {
         present: u128,
         dirty: u128,
     },
-    /// The pages of a group that are held, and the dirty ones.
+    /// The held pages of a group, and its dirty pages.
     Pages {
         group: u64,
         held: u128,
@@ -62,7 +62,7 @@ pub(crate) enum Fact {
     },
     /// An address lies at this page of a block, dirty.
     Lies(u64, u32, u32),
-    /// At this page of a block a pattern of an address with a tag stands, as a data page of the address.
+    /// The pattern of an address with a tag stands at this page of a block, as a data page of the address.
     Data(u32, u32, u64, u64),
     /// A filler page stands there, whose block is zero.
     Filler(u32, u32),
@@ -89,18 +89,17 @@ pub(crate) enum Fact {
 pub(crate) enum Line {
     /// A step that is made.
     Do(Step),
-    /// What is seen then.
+    /// The fact that is seen then.
     See(Fact),
     /// From here on device writes are counted anew.
     Count,
-    /// So many blocks were erased since, and so many pages programmed.
+    /// Since then this many blocks were erased, and this many pages programmed.
     Wrote(u64, u64),
 }
 
 // ---- the start
 
-/// Makes the flash that of an empty cache, on a rig that is fitted. The checkpoint that counts is of era 0, in
-/// region 0.
+/// Formats the flash for an empty cache, on a rig that is fitted. The checkpoint that counts is of era 0, in region 0.
 fn formatted(alloc: Global, rig: &mut MemRig, geometry: &Geometry) -> bool
     ensures shape { OnTrue result (FitsOn geometry.now (state_of rig.new).contents.shape) }
     ensures begins { OnTrue result (IsCommitted (state_of rig.new).contents.flash (log_formatted geometry.now) no_entries) }
@@ -111,7 +110,7 @@ fn formatted(alloc: Global, rig: &mut MemRig, geometry: &Geometry) -> bool
     format(rig, geometry).is_ok()
 }
 
-/// The parts of a cache over a map of nothing, on flash that was formatted.
+/// The parts of a cache over an empty map, on flash that was formatted.
 fn parts_on(alloc: Global, rig: &MemRig, geometry: &Geometry, map: Map) -> Option<Parts>
     requires shape { FitsOn geometry.now (state_of rig.now).contents.shape }
     requires begins { IsCommitted (state_of rig.now).contents.flash (log_formatted geometry.now) no_entries }
@@ -125,7 +124,7 @@ fn parts_on(alloc: Global, rig: &MemRig, geometry: &Geometry, map: Map) -> Optio
     }
 }
 
-/// The parts of a cache of nothing, with P = 4, C = 2 and L = 2. Its pool is the erase blocks 4 to 8.
+/// The parts of an empty cache, with P = 4, C = 2 and L = 2. Its pool is the erase blocks 4 to 8.
 fn begun(alloc: Global, rig: &mut MemRig) -> Option<Parts>
     ensures { IfSome result (λ parts. PartsAgree parts (state_of rig.new).contents) }
 {
@@ -154,9 +153,9 @@ fn reserve(parts: &mut Parts, rig: &MemRig) -> bool
     parts.map.reserve(1, parts.geometry.p).is_ok()
 }
 
-// ---- the steps, each where its conditions hold
+// ---- the steps, each made only if its conditions hold
 
-/// Appends a pattern of an address, and puts the address there.
+/// Appends the pattern of an address, and puts the address there.
 fn put(parts: &mut Parts, rig: &mut MemRig, lba: u64, tag: u64, dirty: bool) -> bool
     requires { PartsAgree parts.old (state_of rig.old).contents }
     ensures { OnTrue result (PartsAgree parts.new (state_of rig.new).contents) }
@@ -176,7 +175,7 @@ fn put(parts: &mut Parts, rig: &mut MemRig, lba: u64, tag: u64, dirty: bool) -> 
     true
 }
 
-/// Takes an address out that is held.
+/// Takes out an address that is held.
 fn take_out(parts: &mut Parts, rig: &MemRig, lba: u64) -> bool
     requires { PartsAgree parts.old (state_of rig.now).contents }
     ensures { OnTrue result (PartsAgree parts.new (state_of rig.now).contents) }
@@ -188,7 +187,7 @@ fn take_out(parts: &mut Parts, rig: &MemRig, lba: u64) -> bool
     true
 }
 
-/// Marks an address clean that is dirty.
+/// Marks a dirty address clean.
 fn mark_clean(parts: &mut Parts, rig: &MemRig, lba: u64) -> bool
     requires { PartsAgree parts.old (state_of rig.now).contents }
     ensures { OnTrue result (PartsAgree parts.new (state_of rig.now).contents) }
@@ -200,7 +199,7 @@ fn mark_clean(parts: &mut Parts, rig: &MemRig, lba: u64) -> bool
     true
 }
 
-/// Merges a group of which something is held.
+/// Merges a group with a held address.
 fn merge(parts: &mut Parts, rig: &mut MemRig, group: u64) -> bool
     requires { PartsAgree parts.old (state_of rig.old).contents }
     ensures { OnTrue result (PartsAgree parts.new (state_of rig.new).contents) }
@@ -211,7 +210,7 @@ fn merge(parts: &mut Parts, rig: &mut MemRig, group: u64) -> bool
     merge_group(parts, rig, group).is_ok()
 }
 
-/// Frees the log block that was taken first, where one is in use.
+/// Frees the log block that was taken first, if one is in use.
 fn free_oldest(parts: &mut Parts, rig: &mut MemRig) -> bool
     requires { PartsAgree parts.old (state_of rig.old).contents }
     ensures { OnTrue result (PartsAgree parts.new (state_of rig.new).contents) }
@@ -222,7 +221,7 @@ fn free_oldest(parts: &mut Parts, rig: &mut MemRig) -> bool
     free_log_block(parts, rig).is_ok()
 }
 
-/// Makes a step. False where its conditions don't hold, or it is refused.
+/// Makes a step. False if its conditions don't hold, or it fails.
 fn make(parts: &mut Parts, rig: &mut MemRig, step: &Step) -> bool
     requires { PartsAgree parts.old (state_of rig.old).contents }
     ensures { OnTrue result (PartsAgree parts.new (state_of rig.new).contents) }
@@ -238,9 +237,9 @@ fn make(parts: &mut Parts, rig: &mut MemRig, step: &Step) -> bool
     }
 }
 
-// ---- what is seen
+// ---- facts that are seen
 
-/// Reads a page of the flash. None where there is no such page, or it can't be read.
+/// Reads a page of the flash. `None` if there is no such page, or it can't be read.
 fn read_page(
     rig: &mut MemRig,
     block: u32,
@@ -269,7 +268,7 @@ fn is_blank(rig: &mut MemRig, block: u32, page: u32) -> bool
     }
 }
 
-/// Whether a page of this kind stands there, with an address and the pattern of it with a tag.
+/// Whether a page of this kind stands there, with an address and the pattern of the address with a tag.
 fn shows(rig: &mut MemRig, block: u32, page: u32, kind: SpareKind, lba: u64, tag: u64) -> bool
     ensures { (state_of rig.new).contents ≡ (state_of rig.old).contents }
 {
@@ -296,7 +295,7 @@ fn lies(parts: &Parts, lba: u64, block: u32, page: u32) -> bool {
     }
 }
 
-/// Whether this is the data block of a group, with these pages that are present, and these that are dirty.
+/// Whether this is the data block of a group, with these present and these dirty pages.
 fn is_data_block(parts: &Parts, group: u64, block: u32, present: u128, dirty: u128) -> bool {
     match parts.map.block_of(group) {
         Some(own) => own.block() == block && own.present() == present && own.dirty() == dirty,
@@ -304,7 +303,7 @@ fn is_data_block(parts: &Parts, group: u64, block: u32, present: u128, dirty: u1
     }
 }
 
-/// Whether a block of the pool is used so.
+/// Whether a block of the pool has this role.
 fn is_used(parts: &Parts, block: u32, role: Role) -> bool
     requires { AreOfOne parts.now }
 {
@@ -324,7 +323,7 @@ fn is_first_group_in(parts: &Parts, rig: &mut MemRig, block: u32) -> bool
     is_data_block(parts, 0, block, 15, 15)
 }
 
-/// Whether a fact is so that the parts tell by themselves.
+/// Whether a fact holds that the parts alone decide.
 fn tells(parts: &Parts, fact: &Fact) -> bool
     requires { AreOfOne parts.now }
 {
@@ -350,7 +349,7 @@ fn tells(parts: &Parts, fact: &Fact) -> bool
     }
 }
 
-/// Whether a fact is so.
+/// Whether a fact holds.
 fn has(parts: &Parts, rig: &mut MemRig, fact: &Fact) -> bool
     requires { AreOfOne parts.now }
     ensures { (state_of rig.new).contents ≡ (state_of rig.old).contents }
@@ -366,13 +365,13 @@ fn has(parts: &Parts, rig: &mut MemRig, fact: &Fact) -> bool
 
 // ---- examples
 
-/// Whether so many blocks were erased, and so many pages programmed.
+/// Whether this many blocks were erased, and this many pages programmed.
 fn wrote(old: &Counts, new: &Counts, erases: u64, programs: u64) -> bool {
     new.erases == old.erases.wrapping_add(erases)
         && new.programs == old.programs.wrapping_add(programs)
 }
 
-/// Whether a line is so, where device writes were counted at this.
+/// Whether a line holds, with device writes counted from `counted` on.
 fn is_so(parts: &mut Parts, rig: &mut MemRig, counted: &mut Counts, line: &Line) -> bool
     requires { PartsAgree parts.old (state_of rig.old).contents }
     ensures { OnTrue result (PartsAgree parts.new (state_of rig.new).contents) }
@@ -401,7 +400,7 @@ fn run(parts: &mut Parts, rig: &mut MemRig, steps: &[Step]) -> bool
     true
 }
 
-/// The first line that isn't so.
+/// The first line that doesn't hold.
 fn first_wrong_on(parts: &mut Parts, rig: &mut MemRig, lines: &[Line]) -> Option<usize>
     requires { PartsAgree parts.old (state_of rig.old).contents }
 {
@@ -414,7 +413,7 @@ fn first_wrong_on(parts: &mut Parts, rig: &mut MemRig, lines: &[Line]) -> Option
     None
 }
 
-/// The same once these steps were made; where they can't be, the number of lines.
+/// The same once these steps were made. If they can't be, it is the number of lines.
 fn first_wrong_after(
     parts: &mut Parts,
     rig: &mut MemRig,
@@ -429,7 +428,7 @@ fn first_wrong_after(
     first_wrong_on(parts, rig, lines)
 }
 
-/// The same over a cache of nothing.
+/// The same over an empty cache.
 pub(crate) fn first_wrong(alloc: Global, steps: &[Step], lines: &[Line]) -> Option<usize> {
     let mut rig = MemRig::new(alloc);
     match begun(alloc, &mut rig) {

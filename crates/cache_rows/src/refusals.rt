@@ -10,7 +10,7 @@ use plain_format::{spelled_page, spelled_seal};
 use record_codec::{Header, PageKind, Totals, write_page};
 use std::alloc::Global;
 
-/// The same with one data block more.
+/// The same geometry with one more data block.
 fn wider() -> Geometry {
     Geometry {
         p: 4,
@@ -24,22 +24,22 @@ fn wider() -> Geometry {
 /// A line of an example. The caches have two data blocks, or three.
 #[derive(Clone, Copy)]
 enum Line {
-    /// The flash is made that of an empty cache of two.
+    /// The flash is formatted for an empty cache of two.
     Format,
-    /// It is opened for two.
+    /// The flash opens for two.
     Opens,
-    /// The same is refused.
+    /// The flash fails to open for two, with this error.
     Refused(OpenError),
-    /// It is refused for three.
+    /// The flash fails to open for three, with this error.
     WiderRefused(OpenError),
-    /// A page of a log is programmed, as the first one of a block.
+    /// A log page is programmed, as the first page of a block.
     Program(u32),
-    /// The flash is made one with a checkpoint of format 2 and era 0 that says that there are so many entries, and so
-    /// many dirty ones. It has one, which is dirty.
+    /// The flash gets a checkpoint of format 2 and era 0, which says that there are this many entries, and this many
+    /// dirty ones. It has one entry, which is dirty.
     Checkpoint(u64, u64),
 }
 
-/// A log page that says that an address stands above the pool of a cache of two data blocks.
+/// A log page that puts an address above the pool of a cache of two data blocks.
 fn page_above_the_pool() -> Block {
     let mut page = zero_block();
     let header = Header {
@@ -75,7 +75,7 @@ fn map_page() -> Block {
     spelled_page(&header, 4, [change].as_slice())
 }
 
-/// Its seal, which says this of the entries.
+/// The seal of that checkpoint, which gives these numbers of entries.
 fn seal_page(entries: u64, dirty: u64) -> Block {
     let header = Header {
         format: 2,
@@ -94,7 +94,7 @@ fn seal_page(entries: u64, dirty: u64) -> Block {
     spelled_seal(&header, &numbers, &Totals { entries, dirty })
 }
 
-/// Programs the next page of a block. False where it isn't ready.
+/// Programs the next page of a block. False if the block isn't ready.
 fn program_next(rig: &mut MemRig, block: u32, bytes: &Block) -> bool {
     if block >= rig.flash_blocks() {
         return false;
@@ -109,7 +109,7 @@ fn program_next(rig: &mut MemRig, block: u32, bytes: &Block) -> bool {
     true
 }
 
-/// Makes the flash one with this checkpoint.
+/// Makes the flash anew, with this checkpoint.
 fn put_checkpoint(alloc: Global, rig: &mut MemRig, entries: u64, dirty: u64) -> bool {
     let mut block = zero_block();
     pattern(5, 1, &mut block);
@@ -119,7 +119,7 @@ fn put_checkpoint(alloc: Global, rig: &mut MemRig, entries: u64, dirty: u64) -> 
         && program_next(rig, 0, &seal_page(entries, dirty))
 }
 
-/// Programs the first page of a block. False where it isn't ready.
+/// Programs the first page of a block. False if the block isn't ready.
 fn program_first(rig: &mut MemRig, block: u32) -> bool {
     if block >= rig.flash_blocks() || rig.flash_pages() == 0 || rig.next_page(block) != Some(0) {
         return false;
@@ -129,7 +129,7 @@ fn program_first(rig: &mut MemRig, block: u32) -> bool {
     true
 }
 
-/// Whether a line is so.
+/// Whether a line holds.
 fn is_so(alloc: Global, rig: &mut MemRig, line: &Line) -> bool {
     match line {
         Line::Format => format(rig, &geometry()),
@@ -141,7 +141,7 @@ fn is_so(alloc: Global, rig: &mut MemRig, line: &Line) -> bool {
     }
 }
 
-/// The first line that isn't so, on a rig that is as large as this says; where it can't be, the number of lines.
+/// The first line that doesn't hold, on a rig of this size. If the rig can't be made, it is the number of lines.
 fn first_wrong_on(
     alloc: Global,
     rig: &mut MemRig,
@@ -200,7 +200,7 @@ fn flash_of_another_cache_is_refused(rt: HostRuntime) {
 const DAMAGED: [Line; 4] = [
     Line::Format,
     Line::Opens,
-    // The log that was opened is that of era 1 at block 3.
+    // The log that was opened has era 1, and is at block 3.
     Line::Program(3),
     Line::Refused(OpenError::Damaged { block: 3, page: 0 }),
 ];

@@ -12,12 +12,12 @@ const OUTCOMES: [Outcome; 4] = [
     Outcome::Mixed,
 ];
 
-/// Commands that are not all carried out.
+/// Commands, some of which are not carried out.
 #[derive(Clone, Copy)]
 struct Story {
-    /// Those that are.
+    /// The commands that are carried out.
     begun: &'static [Step],
-    /// Those of which a device write is cut, or a call fails.
+    /// The commands in which a device write is cut, or a call fails.
     stopped: &'static [Step],
     /// Whether the second device write of a first opening is cut as well.
     is_opening_cut: bool,
@@ -25,23 +25,23 @@ struct Story {
     gives_way: bool,
 }
 
-/// What stops it.
+/// The stop of a story.
 #[derive(Clone, Copy)]
 enum Stop {
-    /// The device write of a number is cut, counted from the first command that isn't carried out for sure.
+    /// The device write of a number is cut, counted from the first command that may not be carried out.
     Cut(u64, Outcome),
-    /// The call of the flash of a number fails, counted from the first one of all.
+    /// The call of the flash with a number fails, counted from the very first call.
     Fault(u64),
 }
 
-/// What becomes of it.
+/// The outcome of a story.
 #[derive(Clone, Copy, PartialEq, Eq)]
 enum Became {
-    /// The stop is none of the commands that are looked at.
+    /// The stop isn't within the commands that are looked at.
     Untouched,
     /// Nothing is lost.
     Kept,
-    /// Something is.
+    /// Something is lost.
     Lost,
 }
 
@@ -62,7 +62,7 @@ fn opens_after(bench: &mut Bench, story: &Story, stop: Stop) -> bool {
     }
 }
 
-/// Puts the stop before the commands that are looked at, where it isn't there yet.
+/// Arms the stop before the commands that are looked at, unless it is armed already.
 fn armed(bench: &mut Bench, stop: Stop) -> bool {
     match stop {
         Stop::Cut(number, outcome) => bench.arm(number, outcome),
@@ -70,7 +70,7 @@ fn armed(bench: &mut Bench, stop: Stop) -> bool {
     }
 }
 
-/// What becomes of the commands that are looked at.
+/// The outcome of the commands that are looked at.
 fn tried(bench: &mut Bench, story: &Story, stop: Stop) -> Became {
     if !bench.run(story.begun) || !armed(bench, stop) {
         return Became::Untouched;
@@ -85,7 +85,7 @@ fn tried(bench: &mut Bench, story: &Story, stop: Stop) -> Became {
     Became::Lost
 }
 
-/// What becomes of a story with such a stop.
+/// The outcome of a story with such a stop.
 fn told(alloc: Global, story: &Story, stop: Stop) -> Became {
     match bench_for(alloc, stop) {
         Some(bench) => {
@@ -96,7 +96,7 @@ fn told(alloc: Global, story: &Story, stop: Stop) -> Became {
     }
 }
 
-/// The first outcome of a stop at the device write of a number that loses something.
+/// The first outcome of a stop at the device write of a number with which something is lost.
 fn losing(alloc: Global, story: &Story, number: u64) -> Option<Outcome> {
     for i in 0..4 {
         if told(alloc, story, Stop::Cut(number, OUTCOMES[i])) != Became::Kept {
@@ -106,7 +106,7 @@ fn losing(alloc: Global, story: &Story, number: u64) -> Option<Outcome> {
     None
 }
 
-/// The first stop, at a device write below a number, that loses something.
+/// The first stop, at a device write below a number, with which something is lost.
 fn first_losing(alloc: Global, story: &Story, end: u64) -> Option<(u64, Outcome)> {
     for number in 1..end {
         if let Some(outcome) = losing(alloc, story, number) {
@@ -116,8 +116,8 @@ fn first_losing(alloc: Global, story: &Story, end: u64) -> Option<(u64, Outcome)
     None
 }
 
-/// How many calls fail within the commands that are looked at, each in turn, unless one loses something.
-/// The first calls are those that make the cache.
+/// How many calls fail within the commands that are looked at, each in turn; `None` if something is lost. The first
+/// calls are the ones that make the cache.
 fn count_kept(alloc: Global, story: &Story) -> Option<u32> {
     let mut kept: u32 = 0;
     for number in 15..90 {

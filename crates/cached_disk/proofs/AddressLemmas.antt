@@ -36,9 +36,9 @@ lbas_in s = map (λ x. x.0) (filter (λ x. x.1.dirty) (entries s))
 abbrev pub has_lba : ℕ → List ℕ → Bool
 has_lba a lbas = list_any (λ k. k == a) lbas
 
--- ---- what a cache holds, by its entries
+-- ---- the addresses that a cache holds, by its entries
 
--- an address is held exactly where it has an entry
+-- an address is held exactly when it has an entry
 pub holds_held : (c : Ssc) (contents : Contents) (s : CacheList) → Holds c contents s → (a : ℕ) → is_some (get (entries_of c) a) ≡ is_some (get s a)
 holds_held c contents s holds a = by (get (entries_of c) a) refl
   where
@@ -54,7 +54,7 @@ holds_within c contents s holds a h there = by (get (entries_of c) a) refl
     by None at = absurd (let both : None ≡ Some h = sym (held_none c contents s a holds at) ∙ there in cc)
     by (Some e) at = let map = agree_map c.parts contents holds.agree in map.within a e at
 
--- ---- an address of the list is a dirty one
+-- ---- an address of the list is dirty
 
 pub lbas_has : (s : CacheList) (a : ℕ) → IsDirtyIn s a → has_lba a (lbas_in s) ≡ true
 lbas_has s a dirty = by_get s (λ a h. h.dirty ≡ true → has_lba a (lbas_in s) ≡ true) (all_members (λ (x : ℕ × Held). x.0) (λ (h : Held). h.dirty) (entries s)) a dirty.0 dirty.1 dirty.2
@@ -74,7 +74,7 @@ pub not_above : (n : ℕ) (ns : List ℕ) → AllByRecursion (λ k. n < k) ns �
 not_above n [] all = refl
 not_above n (k ∷ ks) all = let above : n < k = all.0 in let other : (k == n) ≡ false = grind (arith, nat_tests) in or_from (k == n) (has_lba n ks) other (not_above n ks all.1)
 
--- two with the same numbers are one
+-- two lists with the same numbers are equal
 pub ascending_same : (xs ys : List ℕ) → AreAscending xs → AreAscending ys → ((a : ℕ) → has_lba a xs ≡ has_lba a ys) → xs ≡ ys
 ascending_same [] [] up up' same = refl
 ascending_same [] (y ∷ ys) up up' same = absurd (false≢true (same y ∙ or_left (y == y) (has_lba y ys) (same_number y)))
@@ -205,7 +205,7 @@ pub lbas_same : (s t : CacheList) → ((a : ℕ) → IsDirtyIn s a → IsDirtyIn
 lbas_same s t there back = ascending_same (lbas_in t) (lbas_in s) (lbas_ascending t) (lbas_ascending s) (λ a.
     same_bools (has_lba a (lbas_in t)) (has_lba a (lbas_in s)) (λ has. lbas_has s a (back a (lbas_dirty t a has))) (λ has. lbas_has t a (there a (lbas_dirty s a has))))
 
--- the dirty addresses of a cache are those of the list that it holds
+-- the dirty addresses of a cache are the dirty addresses of the list that it holds
 by_mark : {X : Type 0} (dirty : X → Bool) (es : List (ℕ × X)) → map (λ x. x.0) (filter (λ x. dirty x.1) es) ≡ map (λ x. x.0) (filter (λ x. x.1) (marks dirty es))
 by_mark dirty [] = refl
 by_mark dirty (e ∷ es) = by (dirty e.1) (by_mark dirty es)
@@ -281,7 +281,7 @@ module _ (told : Told) (call : Call) (s v : CacheList) (lba : ℕ) (h : Held) (v
     ];
   }
 
--- ---- with an address, without those of a group, and with none
+-- ---- with an address, without a group's addresses, and with none
 
 pub lbas_with : (s t : CacheList) (lba : ℕ) → IsDirtyIn t lba → ((a : ℕ) → IsDirtyIn s a → IsDirtyIn t a) → ((a : ℕ) → IsDirtyIn t a → (a ≡ lba) ⊎ IsDirtyIn s a) → lbas_in t ≡ with_lba lba (lbas_in s)
 lbas_with s t lba here stays was = ascending_same (lbas_in t) (with_lba lba (lbas_in s)) (lbas_ascending t) (with_ascending lba (lbas_in s) (lbas_ascending s)) (λ a.
@@ -314,7 +314,7 @@ lbas_without s t p n was stays = ascending_same (lbas_in t) (filter (λ a. not (
 pub lbas_none : (s : CacheList) → ((a : ℕ) → IsDirtyIn s a → ⊥) → lbas_in s ≡ []
 lbas_none s none = ascending_same (lbas_in s) [] (lbas_ascending s) tt (λ a. same_bools (has_lba a (lbas_in s)) false (λ has. absurd (none a (lbas_dirty s a has))) (λ is. absurd (false≢true is)))
 
--- ---- those of a range
+-- ---- the dirty addresses of a range
 
 filter_same : {X : Type 0} (t u : X → Bool) (es : List X) → AllByRecursion (λ x. t x ≡ u x) es → filter t es ≡ filter u es
 filter_same t u [] all = refl

@@ -1,4 +1,4 @@
--- What a call on a volume that is up did, and how it goes on.
+-- The effects of a call on a volume that is up.
 use Rattle.std.proofs.Common.{◌≡◌, ◌≢◌, ℕ, ◌+◌, ◌≤◌, Bool, true, false, cond, [], length, None, Result, Ok, Err, IfOk, OnOk, inl, inr, refl, sym, ◌∙◌, ap, subst, arith}
 use Rattle.std.proofs.lemmas.Bool.{both_ways, false≢true}
 use Rattle.ft_base.specs.declared.block.Block.{Block}
@@ -51,7 +51,7 @@ module _ (lba : ℕ) (block : Block) (old new : VolumeState) (after : Contents) 
   pub answered_write : WasDone {T = Unit {0}} ImageIs (Writes lba block) old new after (Ok tt) d
   answered_write = done_of_one ImageIs (Writes lba block) old new after (Ok tt) d none none_new one_done tt
 
-  -- refused, and the block is there all the same
+  -- the call failed, and the block is there all the same
   one_refused : (e : VolumeError) → (e ≡ volume.OutOfMemory → ⊥) → WasOne {T = Unit {0}} (ImageIs new.told) (Writes lba block) after (Err e) d
   one_refused e other = record {
     kept = λ nothing. absurd (cc);
@@ -65,9 +65,9 @@ module _ (lba : ℕ) (block : Block) (old new : VolumeState) (after : Contents) 
   pub refused_write : (e : VolumeError) → (e ≡ volume.OutOfMemory → ⊥) → new.down ≡ true → WasDone {T = Unit {0}} ImageIs (Writes lba block) old new after (Err e) d
   refused_write e other down = done_of_one ImageIs (Writes lba block) old new after (Err e) d none none_new (one_refused e other) (λ up. absurd (false≢true (sym up ∙ down)))
 
--- ---- the cache was refused
+-- ---- the cache failed
 
--- it is given up, unless memory was wanting
+-- the cache is given up, unless there was no memory
 pub gives_up : (e : SscError) → ((n limit : ℕ) → e ≡ Full n limit → ⊥) → (e ≡ OutOfMemory → ⊥) → stops {T = Unit {0}} (Err e) ≡ true
 gives_up (Full n limit) full memory = absurd (full n limit refl)
 gives_up FlashFault full memory = refl
@@ -123,7 +123,7 @@ module _ (before after : State) where
     drives.passes,
   )
 
-  -- the volume is down then
+  -- the volume is down after that
   pub goes_down : (old new : VolumeState) (e : SscError) (r : VolumeError) → new.told ≡ old.told → new.down ≡ true → IsOfCache e r → (e ≡ OutOfMemory → ⊥)
       → DrivesFlash before after (ssc_failed {T = Unit {0}} (Err e)) (ssc_lost {T = Unit {0}} (Err e)) → Goes {T = Unit {0}} old new before after (Err r)
   goes_down old new e r told down is memory drives =
@@ -139,7 +139,7 @@ module _ (before after : State) where
         passes = on.1;
       }
 
--- ---- the cache was driven, and answered
+-- ---- the cache was driven, and answered `Ok`
 
 pub goes_driven : {T : Type 0} (value : T) (before after : State) (old new : VolumeState) → new.told ≡ old.told → new.down ≡ false → DrivesFlash before after false false → Goes old new before after (Ok value)
 goes_driven value before after old new told up drives = record {
@@ -190,7 +190,7 @@ module _ {T : Type 0} (before mid after : State) (contents : mid.contents ≡ be
     refused = costs.refused;
   }
 
--- ---- what is held
+-- ---- the addresses that are held
 
 pub held_along : (told : Told) (call : Call) (f g f' g' : ℕ → Bool) → ((a : ℕ) → f' a ≡ f a) → ((a : ℕ) → g' a ≡ g a) → HoldsAfter told call f g → HoldsAfter told call f' g'
 held_along told call f g f' g' old new holds = record {
@@ -206,9 +206,9 @@ same_held told call f g none same = record {
   stays = λ groups lie a was. same a ∙ was;
 }
 
--- ---- what a call costs
+-- ---- the cost of a call
 
--- no block of the disk was asked for, and what is held and what waits is as before
+-- no block of the disk was read or written, and the held addresses and the waiting blocks are unchanged
 pub same_costs : {T : Type 0} (value : T) (call : Call) (old new : VolumeState) (before after : State) → ((a : ℕ) → IsOwn call a → ⊥) → backs_of call old.told old.table ≡ 0 → new.table ≡ table_after call old.told old.table → ((a : ℕ) → new.held a ≡ old.held a)
     → after.counts.disk_reads ≡ before.counts.disk_reads → after.counts.disk_writes ≡ before.counts.disk_writes → Costs call old new before after (Ok value)
 same_costs value call old new before after none backs table held reads writes = record {
@@ -242,14 +242,14 @@ idle_same told t groups is none =
     let no : goes_back told.mode told.dirty (length t) ≡ false = ap (λ (n : ℕ). goes_back told.mode told.dirty n) is ∙ none in
     (ap (λ (b : Bool). cond b (without_last t) t) no, ap (λ (b : Bool). cond b (last_size t) 0) no)
 
--- ---- refused
+-- ---- the call failed
 
 module _ (call : Call) (old new : VolumeState) where
-  -- it is down
+  -- the volume is down
   pub none_up : new.down ≡ true → new.down ≡ false → StaysUp call old new
   none_up down up = absurd (both_ways new.down up down)
 
-  -- all is as it was
+  -- nothing has changed
   pub same_up : new ≡ old → new.down ≡ false → StaysUp call old new
   same_up same up = subst (StaysUp call old) (sym same) (stays_same call old)
 
@@ -257,7 +257,7 @@ module _ (call : Call) (old new : VolumeState) where
       → Costs {T = T} call old new before after (Err e)
   refused_costs T before after e up reads writes = record { table = tt; held = tt; disk_writes = tt; most_writes = omega (arith, writes); most_reads = reads; refused = up }
 
--- ---- what a call asks of the devices
+-- ---- the device calls of a call
 
 module _ {T : Type 0} (call : Call) (old new : VolumeState) (before after : State) (result : Result T VolumeError) where
   no_room : (r : Result T VolumeError) → (FindsRoom call old → ⊥) → OnOk r (FindsRoom call old → after.counts ≡ program_counted (program_counted before.counts))
@@ -272,12 +272,12 @@ module _ {T : Type 0} (call : Call) (old new : VolumeState) (before after : Stat
 pub asks_missing : {T : Type 0} (lba : ℕ) (block : Block) (old new : VolumeState) (before after : State) (result : Result T VolumeError) → old.held lba ≡ false → after.counts.disk_flushes ≡ before.counts.disk_flushes → AsksDevices (Reads lba block) old old new before after result
 asks_missing lba block old new before after result absent same = asks_none (Reads lba block) old new before after result (λ is. both_ways (old.held lba) absent is.1) (λ room. room) (omega (arith, same))
 
--- nothing follows where nothing finds room
+-- nothing follows if nothing finds room
 pub from_none : {T : Type 0} (P : Type 0) (r : Result T VolumeError) → OnOk r (⊥ → P)
 from_none P (Ok value) = λ none. absurd none
 from_none P (Err e) = tt
 
--- a read of one that is held
+-- a read of an address that is held
 pub asks_held : {T : Type 0} (lba : ℕ) (block : Block) (old new : VolumeState) (before after : State) (result : Result T VolumeError) → new ≡ old → ReadsFlash before after (flash_failed result) (volume_lost result) → AsksDevices (Reads lba block) old old new before after result
 asks_held {T = T} lba block old new before after result same reads = record {
   flushes = let is = ap (λ (x : Counts). x.disk_flushes) reads.counts in omega (arith, is);
@@ -285,7 +285,7 @@ asks_held {T = T} lba block old new before after result same reads = record {
   two_programs = from_none _ result;
 }
 
--- the flash was read, and the volume says why that was refused
+-- the flash was read, and the volume says why the read failed
 module _ (S T : Type 0) (before after : State) where
   abbrev Reads_on : VolumeError → Type 0
   Reads_on r = ReadsFlash before after (flash_failed {T = T} (Err r)) (volume_lost {T = T} (Err r))
@@ -296,7 +296,7 @@ module _ (S T : Type 0) (before after : State) where
   reads_as PowerLost r is reads = subst Reads_on (sym is) reads
   reads_as OutOfMemory r is reads = subst Reads_on (sym is) reads
 
--- ---- of an answer
+-- ---- facts about an answer
 
 pub if_ok_also : {T E : Type 0} {P Q : T → Type 0} (r : Result T E) → ((value : T) → P value → Q value) → IfOk r P → IfOk r Q
 if_ok_also (Ok value) step is = step value is

@@ -36,7 +36,7 @@ one_value values b none (inr earlier) = absurd (subst (λ (bs : List Block). IsO
 abbrev pub IsOver : Geometry → CacheList → (ℕ → Values) → PlainDisk → Type 0
 IsOver g s disk d = (a : ℕ) → a < g.size → (b : Block) → HasValue (disk a) b → held_or (get s a) b ≡ d a
 
--- each value had before
+-- each value was there before
 abbrev pub Had : (ℕ → Values) → (ℕ → Values) → Type 0
 Had old new = (a : ℕ) (b : Block) → HasValue (new a) b → HasValue (old a) b
 
@@ -46,7 +46,7 @@ over_fewer g s old new d had over a within b has = over a within b (had a b has)
 pub agrees_fewer : (s : CacheList) (old new : ℕ → Values) → Had old new → Agrees s old → Agrees s new
 agrees_fewer s old new had agrees a h b at clean has = agrees a h b at clean (had a b has)
 
--- ---- and what the media stand for
+-- ---- the plain disk for which the media stand
 
 module _ (told : Told) (c : Contents) (s : CacheList) where
   pub over_stands : IsBeneath told c s → (d : PlainDisk) → IsOver told.geometry s c.disk d → StandFor (ImageIs told) c d
@@ -72,18 +72,18 @@ module _ (told : Told) (c : Contents) (s : CacheList) where
       | inr h ↦ ap (λ (x : Option Held). held_or x b) h.1 ∙ sym (ap (λ (x : Option Held). held_or x (c.disk a).newest) h.1)
     ]
 
-    -- what the newest values show is shown by all
+    -- all values show the plain disk that the newest values show
     newest_over : (d : PlainDisk) → ImageIs told (with_newest c) d → IsOver told.geometry s c.disk d
     newest_over d i a within b has =
         shown a b has
         ∙ ap (λ (t : CacheList). held_or (get t a) (c.disk a).newest) (same_list told.geometry c.flash.page s i.list beneath.flash i.flash)
         ∙ i.volume a within
 
-    -- of the plain disks that were possible it is one
+    -- it is one of the plain disks that were possible
     pub one_of_any : (bases : List PlainDisk) → StandForAny (ImageIs told) c bases → StandForOneOf (ImageIs told) c bases
     one_of_any bases any = any_map (ImageIs told (with_newest c)) (StandFor (ImageIs told) c) (λ d i. over_stands beneath d (newest_over d i)) bases (any (with_newest c) (newest_image c))
 
--- ---- where the flash stands for what it stood for, and the disk shows nothing new
+-- ---- if the flash stands for the same list, and the disk shows nothing new
 
 module _ (told : Told) (old new : Contents) (lists : (s : CacheList) → FlashStandsFor told.geometry old.flash.page s → FlashStandsFor told.geometry new.flash.page s) (had : Had old.disk new.disk) where
   abbrev before : (ℕ → Block) → Image

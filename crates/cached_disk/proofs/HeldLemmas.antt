@@ -1,4 +1,4 @@
--- What it leaves of its media while it is up, and once it is down.
+-- The media that the volume leaves while it is up, and once it is down.
 use Rattle.std.proofs.Common.{◌≡◌, ◌⊎◌, ℕ, ◌<◌, ◌==◌, Bool, true, false, List, [], ◌∷◌, Option, Some, None, inl, inr, refl, sym, ◌∙◌, ap, ap₂, subst}
 use Rattle.std.specs.List.{AllByRecursion, list_any}
 use Rattle.std.specs.FinMap.{get}
@@ -30,7 +30,7 @@ use Rattle.cached_disk.specs.Kept.{IsBeneath, IsDirtyIn, IsHeld, IsInserted, IsL
 use Rattle.cached_disk.proofs.DiskLemmas.{Had, IsOver, agrees_fewer, one_of_any, over_fewer, over_stands, stands_over}
 use Rattle.cached_disk.proofs.StepLemmas.{over_same, same_back, undo_agrees, undo_dirty, undo_same}
 
--- ---- what the cache holds, the disk has no part in it
+-- ---- the list that the cache holds doesn't depend on the disk
 
 holds_beside : (c : Ssc) (old : Contents) (disk : ℕ → Values) (s : CacheList) → Holds c old s → Holds c (record old { disk = disk }) s
 holds_beside c old disk s holds =
@@ -52,18 +52,18 @@ holds_over c old new s flash shape holds =
     let same : new ≡ record old { disk = new.disk } = ap₂ (λ (x : Shape) (f : Flash). record { shape = x; flash = f; disk = new.disk }) shape flash in
     subst (λ (x : Contents). Holds c x s) (sym same) (holds_beside c old new.disk s holds)
 
--- what stands for a list over the cache's geometry does so over that of the options, where they are one
+-- flash that stands for a list by the cache's geometry does so by the options' geometry, if they are equal
 pub own_flash : (v : CachedDisk) → geometry_of v.cache ≡ v.options.geometry → (page : Place → Page) (list : CacheList) → FlashStandsFor (geometry_of v.cache) page list → FlashStandsFor v.options.geometry page list
 own_flash v own page list stands = subst (λ (g : Geometry). FlashStandsFor g page list) own stands
 
 -- ---- marks that suit the mode
 
--- whatever is not clean was there
+-- each block is clean, or was there before
 pub suits_less : (mode : Mode) (s t : CacheList) → Suits mode s → ((a : ℕ) (h : Held) → get t a ≡ Some h → (h.dirty ≡ false) ⊎ (get s a ≡ Some h)) → Suits mode t
 suits_less Back s t suits from = tt
 suits_less Through s t suits from = λ a h at. elim (from a h at) [ inl clean ↦ clean | inr was ↦ suits a h was ]
 
--- what only came clean is undone without a mark
+-- a change that only brought a clean block is undone without a mark
 module _ (a : ℕ) (h : Held) where
   back_was : (x : Buffered) → IsInserted x → (o : Option Held) → back_at x a o ≡ Some h → o ≡ Some h
   back_was (Inserted k) is o at = taken (a == k) o h at
@@ -78,16 +78,16 @@ pub suits_undone : (mode : Mode) (q : List Buffered) (s : CacheList) → MayUndo
 suits_undone Back q s may suits = tt
 suits_undone Through q s may suits = λ a h at. suits a h (undone_was a h q may (get s a) (sym (get_undo q s a) ∙ at))
 
--- ---- while it is up
+-- ---- while the volume is up
 
--- given up, it is down
+-- once the cache is given up, the volume is down
 pub stopped_down : (v : CachedDisk) (c : Ssc) → c.stopped ≡ true → is_down (record v { cache = c }) ≡ true
 stopped_down v c stopped = or_right v.down c.stopped stopped
 
 pub goes_on : (v : CachedDisk) → is_down v ≡ false → (v.down ≡ false) × (v.cache.stopped ≡ false)
 goes_on v up = or_parts v.down v.cache.stopped up
 
--- it holds a list: then a crash leaves that without what is buffered, and both are one plain disk
+-- the volume holds a list: then a crash leaves that list without the buffered changes, and both are one plain disk
 module _ (v : CachedDisk) (contents : Contents) (s : CacheList) (own : geometry_of v.cache ≡ v.options.geometry) (is : IsHeld v contents s) where
   abbrev pub undone : CacheList
   undone = undo (pending v.cache) s
@@ -114,7 +114,7 @@ module _ (v : CachedDisk) (contents : Contents) (s : CacheList) (own : geometry_
   pub held_left : FitsOn v.options.geometry contents.shape → IsLeft v contents
   held_left shape = record { own = own; shape = shape; list = undone; beneath = held_beneath; held = s; up = λ up. is }
 
-  -- what it holds is the plain disk that the media stand for
+  -- the list that it holds is the plain disk for which the media stand
   pub held_over : (d : PlainDisk) → StandFor (ImageIs (told_of v)) contents d → IsOver v.options.geometry s contents.disk d
   held_over d stand =
       over_same v.options.geometry contents.disk undone s d (same_back contents.disk s undone (undo_same contents.disk s is.agrees (geometry_of v.cache) (pending v.cache) none_waits is.holds.waits))
@@ -123,7 +123,7 @@ module _ (v : CachedDisk) (contents : Contents) (s : CacheList) (own : geometry_
   pub held_stands : (d : PlainDisk) → IsOver v.options.geometry s contents.disk d → StandFor (ImageIs (told_of v)) contents d
   held_stands d over = over_stands (told_of v) contents undone held_beneath d (undone_over d over)
 
-  -- of several that were possible it is one
+  -- it is one of several that were possible
   pub one_held : (bases : List PlainDisk) → StandForAny (ImageIs (told_of v)) contents bases → StandForOneOf (ImageIs (told_of v)) contents bases
   one_held = one_of_any (told_of v) contents undone held_beneath (λ a. elim (is.settled a) [ inl none ↦ inl none | inr dirty ↦ inr (let d = undone_dirty a dirty in (d.0, d.1)) ])
 
@@ -147,19 +147,19 @@ pub read_absent : (o : Option Held) (b : Block) → ReadOf o false b → o ≡ N
 read_absent None b read = refl
 read_absent (Some h) b read = absurd (false≢true read.0)
 
--- ---- once it is down
+-- ---- once the volume is down
 
 -- a crash leaves this list
 pub down_left : (v : CachedDisk) (contents : Contents) (s : CacheList) → geometry_of v.cache ≡ v.options.geometry → FitsOn v.options.geometry contents.shape → is_down v ≡ true → IsBeneath (told_of v) contents s → IsLeft v contents
 down_left v contents s own shape down beneath = record { own = own; shape = shape; list = s; beneath = beneath; held = s; up = λ up. absurd (both_ways (is_down v) up down) }
 
--- the cache and the contents are as before
+-- the cache and the contents are unchanged
 pub left_same : (v : CachedDisk) (c : Ssc) (old new : Contents) → c ≡ v.cache → new ≡ old → IsLeft v old → IsLeft (record v { cache = c }) new
 left_same v c old new same contents left = subst (λ (k : Ssc). IsLeft (record v { cache = k }) new) (sym same) (subst (λ (x : Contents). IsLeft v x) (sym contents) left)
 
 -- ---- a step of the flash
 
--- the disk shows nothing new, and what waited for no flush still waits for none
+-- the disk shows nothing new, and blocks that waited for no flush still wait for none
 pub record Stays (old new : Contents) : Type 0 where
   pub had : Had old.disk new.disk
   pub settled : (a : ℕ) → (old.disk a).earlier ≡ [] → (new.disk a).earlier ≡ []
@@ -173,11 +173,11 @@ module _ (v : CachedDisk) (c : Ssc) (old new : Contents) (stays : Stays old new)
   stepped = record v { cache = c }
 
   module _ (s t : CacheList) (agrees : Agrees t old.disk) (suits : Suits v.mode t) where
-    -- refused: the flash stands for this list
+    -- the call failed: the flash stands for this list
     pub step_beneath : FlashStandsFor v.options.geometry new.flash.page t → IsBeneath (told_of v) new t
     step_beneath stands = record { flash = stands; agrees = agrees_fewer t old.disk new.disk stays.had agrees; suits = suits }
 
-    -- done: the cache holds this list
+    -- the call was done: the cache holds this list
     pub step_held : IsHeld v old s → Holds c new t → ((a : ℕ) → IsDirtyIn s a → IsDirtyIn t a) → MayUndo v.mode (pending c) → IsHeld stepped new t
     step_held is holds keeps may = record {
       holds = holds;

@@ -1,4 +1,4 @@
--- What an opening of the cache leaves of the media.
+-- The media that an opening of the cache leaves.
 use Rattle.std.proofs.Common.{◌≡◌, ℕ, ◌-◌, true, false, Result, Ok, Err, IfOk, IfErr, inl, inr, refl, sym, ◌∙◌, ap, subst, arith}
 use Rattle.std.specs.Prelude.{IsErrOf, OnErr, OnOk}
 use Rattle.ft_base.specs.Count.{bumped}
@@ -86,7 +86,7 @@ module _ (g : Geometry) (a b c : Contents) (page : b.flash.page ≡ a.flash.page
     alone = λ is lba. (crash is).alone lba;
   }
 
-  -- the flush was refused
+  -- the flush failed
   pub opens_refused : (e : MediaError) (r : OpenError) → r ≡ flush_error e → ((lba : ℕ) (v : Block) → HasValue (b.disk lba) v → HasValue (a.disk lba) v)
       → (IsErrOf {T = Unit {0}} (Err e) media.Failed → b.disk ≡ a.disk) → (IsErrOf {T = Unit {0}} (Err e) media.OutOfMemory → ⊥) → (lost {T = Unit {0}} (Err e) ≡ true → Crashed b)
       → Opens g a b (disk_failed {T = Ssc} (Err r)) (open_lost {T = Ssc} (Err r))
@@ -104,7 +104,7 @@ module _ (g : Geometry) (a b c : Contents) (page : b.flash.page ≡ a.flash.page
       by_error media.PowerLost failed memory crash = record { loads = loads_page; lists = lists_page; values = values; flushed = λ no not. absurd (false≢true (sym not)); unflushed = λ yes. absurd (false≢true yes); alone = λ yes lba. (crash refl).alone lba }
       by_error media.OutOfMemory failed memory crash = absurd (memory refl)
 
--- and power, the faults and the counts go on as the two answer
+-- power, the faults and the counts change as the two calls answer
 module _ (a b c : State) (device : DeviceWrite {T = Unit {0}} a b (Ok tt)) (counts : b.counts ≡ flush_counted a.counts) (cause : DiskCause a.faults b.faults false false) (passes : Passes a b false) where
   keeps_ready : {T : Type 0} (r : Result T OpenError) → (open_failed r ≡ false → open_lost r ≡ false → KeepsReady b c) → OnOk r (KeepsReady a c)
   keeps_ready (Ok v) then = λ block there. then refl refl block (device.ready refl refl block there)
@@ -128,12 +128,12 @@ module _ (a b c : State) (device : DeviceWrite {T = Unit {0}} a b (Ok tt)) (coun
     passes = passes_then a b c (open_lost r) passes drives.passes;
   }
 
--- refused, it has only read since
+-- after `Err` it has only read since
 pub reads_after : {T : Type 0} (a b c : State) (r : Result T OpenError) → b.contents.flash ≡ a.contents.flash → b.counts ≡ flush_counted a.counts → OnErr r (open_failed r ≡ false → open_lost r ≡ false → ReadsFlash b c false false) → WritesNothingRefused a c r
 reads_after a b c (Ok v) flash counts reads = tt
 reads_after a b c (Err e) flash counts reads = λ not_failed not_disk not_lost. let only = reads not_failed not_lost in record { flash = ap (λ (x : Contents). x.flash) only.contents ∙ flash; counts = only.counts ∙ counts }
 
--- a refused flush is the disk's failure, or power was lost
+-- if a flush failed, the disk failed or power was lost
 pub flush_tells : (a b : State) (e : MediaError) (r : OpenError) → r ≡ flush_error e → (IsErrOf {T = Unit {0}} (Err e) media.OutOfMemory → ⊥) → WritesNothingRefused {T = Ssc} a b (Err r)
 flush_tells a b e r is memory = subst (λ (x : OpenError). WritesNothingRefused {T = Ssc} a b (Err x)) (sym is) (by_error e memory)
   where

@@ -89,7 +89,7 @@ module _ (v : CachedDisk) (old new : Contents) (s : CacheList) (cache : IsOpenCa
       up_now : is_down v ≡ false
       up_now = let a = cache.goes in cc
 
--- the entries are those that the flash had, the log is empty, no log block is open, and nothing is buffered
+-- the entries are the ones that the flash had, the log is empty, no log block is open, and nothing is buffered
 pub opened_entries : (v : CachedDisk) (g : Geometry) (old new : Contents) → IsOpenCache g old new v.cache → (m : Entries) → load g old.flash.page ≡ Ok m → (entries_of v.cache ≡ m) × (log_room v.cache ≡ log_pages g) × (open_room v.cache ≡ 0) × (pending v.cache ≡ [])
 opened_entries v g old new cache m loads =
     let same_load : Ok (entries_of v.cache) ≡ Ok m = sym cache.loads ∙ loads in
@@ -109,9 +109,9 @@ none_suits Through = λ a h at. absurd (let no : None ≡ Some h = sym (get-empt
 pub empty_volume : (g : Geometry) (c c' : Contents) (d : PlainDisk) → ((a : ℕ) → c.disk a ≡ c'.disk a) → ((a : ℕ) → a < g.size → (c'.disk a).newest ≡ d a) → IsVolume g nothing_held c d
 empty_volume g c c' d same is a within = ap (λ (o : Option Held). held_or o (c.disk a).newest) (get-empty nat_cmp a) ∙ ap (λ (x : Values). x.newest) (same a) ∙ is a within
 
--- ---- an opening that is refused
+-- ---- an opening that failed
 
--- a volume that is down stays one, over media that stand for what they stood for
+-- a volume that is down stays down, over media that stand for the same plain disks
 pub refused_left : (v : CachedDisk) (old new : Contents) (f l : Bool) → IsLeft v old → is_down v ≡ true → Opens v.options.geometry old new f l → new.shape ≡ old.shape → IsLeft v new
 refused_left v old new f l left down opens shape =
     down_left v new left.list left.own (subst (λ (x : Shape). FitsOn v.options.geometry x) (sym shape) left.shape) down
@@ -130,12 +130,12 @@ module _ (told : Told) (old new : Contents) where
   refused_fixed PowerLost r is opens = subst FixedBy (sym is) (one_left told old new opens.lists opens.values (opens.alone refl))
   refused_fixed OutOfMemory r is opens = subst FixedBy (sym is) (any_left told old new opens.lists opens.values)
 
--- ---- it is given up
+-- ---- the volume is given up
 
 pub given_up_left : (v : CachedDisk) (contents : Contents) → IsLeft v contents → IsLeft (record v { down = true }) contents
 given_up_left v contents left = down_left (record v { down = true }) contents left.list left.own left.shape refl left.beneath
 
--- by a cut, after which power is on again
+-- the volume is given up by a cut, after which power is on again
 module _ (v : CachedDisk) (old off on : State) (outcome : Outcome) (left : IsLeft v old.contents) (cut : Cut old off outcome) (power : on ≡ powered off) where
   same_contents : on.contents ≡ off.contents
   same_contents = ap (λ (s : State). s.contents) power
@@ -158,7 +158,7 @@ module _ (v : CachedDisk) (old off on : State) (outcome : Outcome) (left : IsLef
   pub one_off : (told : Told) (bases : List PlainDisk) → StandForAny (ImageIs told) old.contents bases → StandForOneOf (ImageIs told) on.contents bases
   one_off told = one_left told old.contents on.contents (lists_off told.geometry) had_off (λ a. ap (λ (x : Contents). (x.disk a).earlier) same_contents ∙ cut.crashed.alone a)
 
--- ---- what a volume tells once it is open
+-- ---- the state of a volume once it is open
 
 abbrev told_as : Told → Bool → (ℕ → Bool) → Table → ℕ → ℕ → ℕ → VolumeState
 told_as told down held table room left buffered = record { told = told; down = down; owed = []; held = held; table = table; log_room = room; open_room = left; buffered = buffered }
@@ -173,7 +173,7 @@ same_told t u d e h k w x m n o p b c told down held table room left buffered =
     ∙ ap (λ (y : ℕ). told_as u e k x n y b) left
     ∙ ap (λ (y : ℕ). told_as u e k x n p y) buffered
 
--- the memory of a write changes nothing of that
+-- the memory of a write doesn't change that state
 pub reserved_tells : (order : List ℕ) (v : CachedDisk) (k : Ssc) → k.parts ≡ record v.cache.parts { map = k.parts.map } → entries_of k ≡ entries_of v.cache → k.stopped ≡ v.cache.stopped → state_in order (record v { cache = k }) ≡ state_in order v
 reserved_tells order v k parts entries stopped =
     same_told (told_of v) (told_of v) (v.down || k.stopped) (is_down v) (λ a. is_some (get (entries_of k) a)) (λ a. is_some (get (entries_of v.cache) a))
@@ -181,7 +181,7 @@ reserved_tells order v k parts entries stopped =
     refl (ap (λ (b : Bool). v.down || b) stopped) (ap (λ (m : Entries). λ (a : ℕ). is_some (get m a)) entries) (ap (λ (m : Entries). waiting_in v.options.geometry.p order (dirty_lbas m)) entries)
     (ap (λ (p : Parts). log_pages p.geometry - p.log.next) parts) (ap (λ (p : Parts). p.log_blocks.room) parts) (ap (λ (p : Parts). length (waiting p.log.buffered)) parts)
 
--- where it was down, it tells what the flash has
+-- if the volume was down, its state comes from the flash
 module _ (old new : CachedDisk) (was is : List ℕ) (m : Entries) where
   pub tells_opened : is_down old ≡ true → new.options ≡ old.options → new.mode ≡ old.mode → is_down new ≡ false → entries_of new.cache ≡ m → log_room new.cache ≡ log_pages old.options.geometry → open_room new.cache ≡ 0 → pending new.cache ≡ [] → IsOrderOf is new → state_in is new ≡ opened_of (state_in was old) m
   tells_opened down options mode up has room closed none order =
@@ -191,7 +191,7 @@ module _ (old new : CachedDisk) (was is : List ℕ) (m : Entries) where
       same_told (told_of new) (told_of old) (is_down new) false (state_in is new).held (λ a. is_some (get m a)) (state_in is new).table (table_of old.options.geometry.p [] (dirty_lbas m)) (log_room new.cache) (log_pages old.options.geometry) (open_room new.cache) 0 (length (pending new.cache)) 0 told up held table room closed (ap length none)
       ∙ sym (opened_down (state_in was old) m down)
 
--- it comes up as a volume does, where its dirty groups are told in an order that suits
+-- the volume comes up as a volume does, if its dirty groups stand in an order that suits
 module _ {T : Type 0} (old new : CachedDisk) (was is : List ℕ) (before after : State) where
   opens_as : (r : Result T VolumeError) → Reopens old new before after r → (is_down old ≡ false → is ≡ was) → (is_down old ≡ true → OnOk r (IsOrderOf is new)) → OnOk r ((m : Entries) → Loads (told_of old) before.contents.flash.page m → state_in is new ≡ opened_of (state_in was old) m)
   opens_as (Err e) reopens same order = tt
@@ -220,7 +220,7 @@ module _ {T : Type 0} (old new : CachedDisk) (was is : List ℕ) (before after :
         passes = reopens.passes;
       }
 
--- the memory of a manager's table was refused after it had come up: it is given up again
+-- the memory of a manager's table was refused after the volume came up, so the volume is given up again
 module _ {S T : Type 0} (old new : CachedDisk) (was is : List ℕ) (before after : State) (value : S) where
   pub refused_memory : Reopens {T = S} old new before after (Ok value) → is_down old ≡ true → ComesUp {T = T} ImageIs Loads (state_in was old) (state_in is (record new { down = true })) before after (Err volume.OutOfMemory)
   refused_memory reopens down =
@@ -264,7 +264,7 @@ fresh_opened mode options s is v fresh order = record {
   buffered = ap length fresh.nothing_waits;
 }
 
--- ---- where it writes through
+-- ---- if the volume writes through
 
 pub nothing_dirty : (v : CachedDisk) (contents : Contents) (s : CacheList) → v.mode ≡ Through → IsHeld v contents s → dirty_of v ≡ []
 nothing_dirty v contents s through is = holds_lbas v.cache contents s is.holds ∙ lbas_none s none
@@ -278,7 +278,7 @@ nothing_dirty v contents s through is = holds_lbas v.cache contents s is.holds �
 pub no_order : (v : CachedDisk) → dirty_of v ≡ [] → IsOrderOf [] v
 no_order v none = sym (ap (λ (lbas : List ℕ). table_of v.options.geometry.p [] lbas) none)
 
--- so no group is to be told once it is up
+-- so no group is listed once the volume is up
 pub order_through : {T : Type 0} (result : Result T VolumeError) (v : CachedDisk) (contents : Contents) → v.mode ≡ Through → IsLeft v contents → OnOk result (is_down v ≡ false) → OnOk result (IsOrderOf [] v)
 order_through (Ok value) v contents through left up = no_order v (nothing_dirty v contents left.held through (left.up up))
 order_through (Err e) v contents through left up = tt

@@ -37,7 +37,7 @@ use Rattle.cached_disk.proofs.DiskLemmas.{IsOver, one_value, over_stands}
 use Rattle.cached_disk.proofs.HeldLemmas.{Stays, down_left, drove, goes_on, held_beneath, held_left, held_over, held_stands, own_flash, step_beneath, step_held, step_over, suits_less, undone_over}
 use Rattle.cached_disk.proofs.StepLemmas.{clean_agrees, clean_dirty, clean_dirty_was, clean_same, clean_was, left_there, over_same, vanish_agrees, vanish_dirty, vanish_same, vanish_was}
 
--- ---- what a crash may undo
+-- ---- the changes that a crash may undo
 
 pub may_none : (mode : Mode) (q : List Buffered) → q ≡ [] → MayUndo mode q
 may_none Back q none = tt
@@ -55,12 +55,12 @@ may_more Through old new a (inr (inr none)) may = subst (AllByRecursion IsInsert
 
 -- ---- before a write
 
--- what comes with Ok, where it is no error
+-- a fact that follows from `Ok` holds if the result is no error
 pub on_ok_of : {T E P : Type 0} (r : Result T E) → is_err r ≡ false → OnOk r P → P
 on_ok_of (Ok t) f p = p
 on_ok_of (Err e) f p = absurd (false≢true (sym f))
 
--- the memory of a write was taken, or not: the cache holds what it held
+-- the memory of a write was taken, or not: the cache holds the same list
 pub record IsReserved (old new : Ssc) : Type 0 where
   pub geometry : geometry_of new ≡ geometry_of old
   pub holds : (contents : Contents) (s : CacheList) → Holds old contents s → Holds new contents s
@@ -80,7 +80,7 @@ module _ (v : CachedDisk) (k : Ssc) (reserved : IsReserved v.cache k) where
     undo = subst (MayUndo v.mode) (sym reserved.pending) is.undo;
   }
 
-  -- and a read changed nothing of the media
+  -- a read changed nothing of the media
   pub reserved_left : (old new : Contents) → new ≡ old → IsLeft v old → IsLeft (record v { cache = k }) new
   reserved_left old new same left = record {
     own = reserved.geometry ∙ left.own;
@@ -93,13 +93,13 @@ module _ (v : CachedDisk) (k : Ssc) (reserved : IsReserved v.cache k) where
 
 -- ---- lists that show the same
 
--- a list that shows what is held shows
+-- a list that shows the same blocks as the held list
 pub record ShowsSame (v : CachedDisk) (contents : Contents) (s list : CacheList) : Type 0 where
   pub agrees : Agrees list contents.disk
   pub suits : Suits v.mode list
   pub over : (d : PlainDisk) → IsOver v.options.geometry s contents.disk d → IsOver v.options.geometry list contents.disk d
 
--- the flash stands for one
+-- the flash stands for such a list
 pub record IsShown (v : CachedDisk) (contents : Contents) (s : CacheList) (page : Place → Page) : Type 0 where
   pub list : CacheList
   pub stands : FlashStandsFor v.options.geometry page list
@@ -117,13 +117,13 @@ module _ (v : CachedDisk) (contents : Contents) (s : CacheList) (own : geometry_
   same_shown : (page : Place → Page) → FlashStandsFor (geometry_of v.cache) page s → IsShown v contents s page
   same_shown page stands = record { list = s; stands = own_flash v own page s stands; shows = shows_itself v contents s is }
 
-  -- of a commit
+  -- the list after a commit
   pub commit_shows : (page : Place → Page) → FlashStandsForOne (geometry_of v.cache) page (undo (pending v.cache) s) s s → IsShown v contents s page
   commit_shows page (AsUndone x) = undone_shown page x
   commit_shows page (AsBefore x) = same_shown page x
   commit_shows page (AsAfter x) = same_shown page x
 
-  -- of a block that comes clean, where the disk has it and no other
+  -- the list with a block that comes clean, if the disk has this value there and no other
   module _ (lba : ℕ) (block : Block) (none : IsDirtyIn s lba → ⊥) (only : (b : Block) → HasValue (contents.disk lba) b → b ≡ block) where
     module _ (w : CacheList) (vanish : Vanish v.options.geometry s lba w) where
       left_shows : ShowsSame v contents s w
@@ -152,7 +152,7 @@ module _ (v : CachedDisk) (contents : Contents) (s : CacheList) (own : geometry_
     own_vanish : (w : CacheList) → Vanish (geometry_of v.cache) s lba w → Vanish v.options.geometry s lba w
     own_vanish w vanish = subst (λ (g : Geometry). Vanish g s lba w) own vanish
 
-    -- wherever it was cut
+    -- whenever it was cut
     pub write_shows : (page : Place → Page) → FlashStandsForWrite (geometry_of v.cache) page (undo (pending v.cache) s) s lba (written_clean lba block) → IsShown v contents s page
     write_shows page (AsUndone x) = undone_shown page x
     write_shows page (AsLeft w vanish x) = record { list = w; stands = own_flash v own page w x; shows = left_shows w (own_vanish w vanish) }
@@ -166,7 +166,7 @@ module _ (v : CachedDisk) (contents : Contents) (s : CacheList) (is : IsHeld v c
   pub one_block : (block : Block) → block ≡ (contents.disk lba).newest → (b : Block) → HasValue (contents.disk lba) b → b ≡ block
   one_block block newest b has = elim (is.settled lba) [ inl none ↦ one_value (contents.disk lba) b none has ∙ sym newest | inr dirty ↦ absurd (not_dirty dirty) ]
 
--- the entries tell whether it is held
+-- the entries say whether it is held
 pub not_some : {A : Type 0} (o : Option A) → is_some o ≡ false → o ≡ None
 not_some None is = refl
 not_some (Some x) is = absurd (false≢true (sym is))
@@ -203,7 +203,7 @@ module _ (v : CachedDisk) (c : Ssc) (old new : Contents) (s : CacheList) (by : D
   over_after : (d : PlainDisk) → StandFor (ImageIs (told_of v)) old d → IsOver v.options.geometry t new.disk d
   over_after d stand = step_over v c old new by.stays t d (shows.over d (held_over v old s by.own by.is d stand))
 
-  -- refused: the flash stands for the list
+  -- the call failed: the flash stands for the list
   module _ (stands : FlashStandsFor v.options.geometry new.flash.page t) where
     beneath_after : IsBeneath (told_of v) new t
     beneath_after = step_beneath v c old new by.stays s t shows.agrees shows.suits stands
@@ -214,7 +214,7 @@ module _ (v : CachedDisk) (c : Ssc) (old new : Contents) (s : CacheList) (by : D
     pub refused_stands : KeepsPlainDisk (told_of v) old new
     refused_stands d stand = over_stands (told_of v) new t beneath_after d (over_after d stand)
 
-  -- done: the cache holds the list
+  -- the call was done: the cache holds the list
   module _ (holds : Holds c new t) (keeps : (a : ℕ) → IsDirtyIn s a → IsDirtyIn t a) where
     module _ (may : MayUndo v.mode (pending c)) where
       held_after : IsHeld (record v { cache = c }) new t
@@ -238,7 +238,7 @@ module _ (v : CachedDisk) (c : Ssc) (old new : Contents) (s : CacheList) (by : D
   only_block : (b : Block) → HasValue (old.disk lba) b → b ≡ block
   only_block = one_block v old s by.is lba absent block newest
 
-  -- the cache holds it
+  -- the cache holds the block
   module _ (h : HoldsWritten c new s lba (written_clean lba block)) where
     vanish_own : Vanish v.options.geometry s lba h.left
     vanish_own = subst (λ (g : Geometry). Vanish g s lba h.left) by.own_after h.vanish
@@ -266,7 +266,7 @@ module _ (v : CachedDisk) (c : Ssc) (old new : Contents) (s : CacheList) (by : D
     put_held b = held_along (told_of v) (Reads lba b) (λ a. is_some (get s a)) (λ a. is_some (get (written_clean lba block h.left) a)) (λ a. is_some (get (entries_of v.cache) a)) (λ a. is_some (get (entries_of c) a))
         (holds_held v.cache old s by.is.holds) (holds_held c new (written_clean lba block h.left) h.holds) (written_held (told_of v) (Reads lba b) s h.left lba (written_block lba block false) vanish_own refl (λ a is. is))
 
-  -- it was refused or cut
+  -- the call failed or was cut
   module _ (stands : FlashStandsForWrite (geometry_of v.cache) new.flash.page (undo (pending v.cache) s) s lba (written_clean lba block)) where
     shown : IsShown v old s new.flash.page
     shown = write_shows v old s by.own by.is lba block none_dirty only_block new.flash.page stands
@@ -277,14 +277,14 @@ module _ (v : CachedDisk) (c : Ssc) (old new : Contents) (s : CacheList) (by : D
     pub cut_stands : KeepsPlainDisk (told_of v) old new
     cut_stands = refused_stands v c old new s by shown.list shown.shows shown.stands
 
--- ---- what is left of the log
+-- ---- the pages that are left of the log
 
 pub room_fits : (g : Geometry) (next room : ℕ) → room ≡ log_pages g - next → 2 * room < 2 ^ 32
 room_fits g next room is =
     let most : g.j * g.p ≤ 16 * 128 = mul-le g.j g.p 16 128 g.in_range.j_high g.in_range.p_high in
     omega (arith, is, most)
 
--- a checkpoint is due where no more than half is left
+-- a checkpoint is due if at most half is left
 module _ (g : Geometry) (room r j p : ℕ) (is : r ≡ room) (is_j : j ≡ g.j) (is_p : p ≡ g.p) where
   pages : j * p ≡ log_pages g
   pages = ap (λ (n : ℕ). n * p) is_j ∙ ap (λ (n : ℕ). g.j * n) is_p

@@ -1,4 +1,4 @@
--- What a read that the disk refuses leaves: nothing changes but how often what failed.
+-- The state after a read that the disk failed: only the counts of faults change.
 use Rattle.std.proofs.Common.{◌≡◌, Bool, true, false, Err, refl, sym, ◌∙◌, ap, subst, arith}
 use Rattle.std.specs.Prelude.{◌≢◌, None}
 use Rattle.std.proofs.lemmas.Bool.{false≢true}

@@ -47,7 +47,7 @@ use Rattle.cached_disk.proofs.CallLemmas.{from_none}
 use Rattle.cached_disk.specs.declared.disk.CachedDisk.{CachedDisk}
 use Rattle.cached_disk.specs.Kept.{IsLeft, Loads, is_down, told_of}
 
--- ---- what a flush leaves
+-- ---- the state after a flush
 
 three_same : {A : Type 0} (p : A → Type 0) (x : A) → IsAny p (x ∷ x ∷ x ∷ []) → p x
 three_same p x (inl is) = is
@@ -55,11 +55,11 @@ three_same p x (inr (inl is)) = is
 three_same p x (inr (inr (inl is))) = is
 three_same p x (inr (inr (inr none))) = absurd none
 
--- the plain disk that there was, whatever it answers
+-- the media still stand for the same plain disk, whatever the flush answers
 pub flushed_stands : {T : Type 0} (old new : VolumeState) (after : Contents) (result : Result T VolumeError) (base : PlainDisk) → old.owed ≡ [] → WasDone ImageIs Flushes old new after result base → StandFor (ImageIs new.told) after base
 flushed_stands old new after result base none was x now = three_same (ImageIs new.told x) base (subst (λ (ws : List BlockWrite). IsAny (ImageIs new.told x) (stages ws [] base)) none (was.images x now))
 
--- refused, of another call
+-- the error of another call
 module _ {S T : Type 0} (old new : VolumeState) (before after : State) (e : VolumeError) where
   pub goes_at : Goes {T = S} old new before after (Err e) → Goes {T = T} old new before after (Err e)
   goes_at goes = record {
@@ -170,7 +170,7 @@ module _ {S T : Type 0} (old mid new : VolumeState) (before between after : Stat
     passes = passes_then before between after (volume_lost result) first.passes then.passes;
   }
 
--- a read page costs nothing of the disk
+-- reading a page costs nothing of the disk
 module _ {S : Type 0} (old mid new : VolumeState) (is : new ≡ mid) (before between after : State) (value : S) (same : after.counts ≡ between.counts) (first : Costs Flushes old mid before between (Ok value)) where
   writes_most : after.counts.disk_writes ≤ before.counts.disk_writes + 0
   writes_most = subst (λ (x : Counts). x.disk_writes ≤ before.counts.disk_writes + 0) (sym same) first.most_writes
@@ -205,11 +205,11 @@ module _ {S : Type 0} (old mid new : VolumeState) (is : new ≡ mid) (before bet
     refused = λ up. subst (StaysUp Reports old) (sym is) (record { same = λ no. absurd (false≢true (sym no)); table = inl first.table; held = λ a. inl (kept a) });
   }
 
-  -- nor a flush
+  -- a flush asks for nothing more
   pub asks_read : {T : Type 0} (result : Result T VolumeError) → AsksDevices {T = S} Flushes old old mid before between (Ok value) → AsksDevices Reports old old new before after result
   asks_read result asks = record { flushes = let most = asks.flushes in omega (arith, most, flushes_same); found = λ none. absurd none; two_programs = from_none _ result }
 
--- ---- where nothing is buffered, the flash has what the cache has
+-- ---- if nothing is buffered, the flash has the cache's entries
 
 no_length : {A : Type 0} (xs : List A) → length xs ≡ 0 → xs ≡ []
 no_length [] none = refl
@@ -257,14 +257,14 @@ module _ (v w : CachedDisk) (contents : Contents) (options : w.options ≡ v.opt
     scrubbed = scrubbed;
   }
 
--- a volume that is up, with nothing buffered: what it holds is what the flash has
+-- a volume that is up, with nothing buffered: it holds exactly the addresses that the flash has
 pub held_by : (v : CachedDisk) (contents : Contents) → IsLeft v contents → is_down v ≡ false → length (pending v.cache) ≡ 0 → (m : Entries) → Loads (told_of v) contents.flash.page m → IsHeldBy m (λ a. is_some (get (entries_of v.cache) a))
 held_by v contents left up none m loads a =
     let both : Ok (entries_of v.cache) ≡ Ok m = sym (loads_left v v contents refl left up (no_length (pending v.cache) none)) ∙ loads in
     let same : entries_of v.cache ≡ m = cc in
     ap (λ (n : Entries). is_some (get n a)) same
 
--- ---- what is told of the entries that the flash has
+-- ---- the report of the entries that the flash has
 
 pub report_of : (result : Result Report VolumeError) (told : Told) (page : Place → Page) (m : Entries) → OnOk result (Loads told page m) → IfOk result (IsReport told.geometry m) → IfOk result (λ report. (n : Entries) → Loads told page n → IsReport told.geometry n report)
 report_of (Err e) told page m loads is = tt

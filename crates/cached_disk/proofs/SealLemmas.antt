@@ -1,4 +1,4 @@
--- An opening in two steps: what was loaded after a flush of the disk, and the checkpoint of it.
+-- An opening in two steps: the load after a flush of the disk, and the checkpoint.
 use Rattle.std.proofs.Common.{◌≡◌, ℕ, ◌-◌, Bool, true, false, Result, Ok, Err, refl, sym, ◌∙◌, ap, subst, arith, inr}
 use Rattle.std.specs.Prelude.{OnOk, IfOk, IfErr}
 use Rattle.std.proofs.lemmas.Bool.{false≢true}
@@ -68,7 +68,7 @@ since_from g start after (Err e) shape loaded disk only goes = tt
 
 -- ---- the second step
 
--- a refusal of the flash, or of power, is none of the disk, and comes by itself
+-- an error of the flash, or of power, isn't the disk's, and comes by itself
 flash_not_disk : {T : Type 0} (r : Result T OpenError) → IfErr r IsOfFlash → disk_failed r ≡ true → ⊥
 flash_not_disk (Ok v) of is = false≢true is
 flash_not_disk (Err FlashFault) of is = false≢true is
@@ -113,14 +113,14 @@ module _ (g : Geometry) (start now after : State) (loaded : LoadedCache) (since 
   same_own : geometry_of loaded.cache ≡ g
   same_own = since.cache.parts.geometry
 
-  -- what the second step wants
+  -- the precondition of the second step
   pub shape_since : FitsOn (geometry_of loaded.cache) now.contents.shape
   shape_since = subst (λ (h : Geometry). FitsOn h now.contents.shape) (sym same_own) (subst (λ (x : Shape). FitsOn g x) (sym since.goes.passes.shape) since.shape)
 
   pub loaded_since : IsLoadedFrom (geometry_of loaded.cache) now.contents.flash.page loaded
   loaded_since = subst (λ (h : Geometry). IsLoadedFrom h now.contents.flash.page loaded) (sym same_own) (subst (λ (f : Place → Page). IsLoadedFrom g f loaded) (sym page) since.cache)
 
-  -- and what it says is of the start as well
+  -- the effects of the second step, from the start on
   opened_own : (c : Ssc) → IsOpenedOver (geometry_of loaded.cache) now.contents.flash.page after.contents c → IsOpenedOver g start.contents.flash.page after.contents c
   opened_own c opened = subst (λ (h : Geometry). IsOpenedOver h start.contents.flash.page after.contents c) same_own (subst (λ (f : Place → Page). IsOpenedOver (geometry_of loaded.cache) f after.contents c) page opened)
 
@@ -190,7 +190,7 @@ sealed_opens v start after not_cut cache opening shape may =
       stands = λ s stands. let both = may s stands in opened_stands v start.contents after.contents s cache opening.opens stands both.0 both.1;
     }
 
--- it was loaded with these numbers
+-- the disk was loaded with these options
 pub since_made : (options : Options) (v : LoadedDisk) → v.options ≡ options → (start now : State) → LoadedSince options.geometry start now v.cache → LoadedSince v.options.geometry start now v.cache
 since_made options v made start now since = subst (λ (o : Options). LoadedSince o.geometry start now v.cache) (sym made) since
 

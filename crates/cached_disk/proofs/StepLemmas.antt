@@ -1,4 +1,5 @@
--- What the steps on a list of held blocks leave over a disk: what is buffered undone, clean groups that give way, and a block that is written.
+-- The lists that steps leave over a disk: with buffered changes undone, with clean groups given way, and with a block
+-- written.
 use Rattle.std.proofs.Common.{◌≡◌, ◌⊎◌, ℕ, ◌/◌, ◌==◌, Bool, true, false, cond, List, [], ◌∷◌, Option, Some, None, option_map, inl, inr, refl, sym, ◌∙◌, ap, subst, arith, eqb-true}
 use Rattle.std.specs.List.{list_any}
 use Rattle.std.specs.FinMap.{get}
@@ -16,7 +17,7 @@ use Rattle.cache_model.proofs.UndoLemmas.{get_without}
 use Rattle.cached_disk.specs.Kept.{IsDirtyIn}
 use Rattle.cached_disk.proofs.DiskLemmas.{IsOver}
 
--- over whatever the disk may show, both lists show the same
+-- over all values that the disk may show, both lists show the same
 abbrev pub IsSameOver : (ℕ → Values) → CacheList → CacheList → Type 0
 IsSameOver disk s t = (a : ℕ) (b : Block) → HasValue (disk a) b → held_or (get t a) b ≡ held_or (get s a) b
 
@@ -26,7 +27,7 @@ over_same g disk s t d same over a within b has = same a b has ∙ over a within
 pub same_back : (disk : ℕ → Values) (s t : CacheList) → IsSameOver disk s t → IsSameOver disk t s
 same_back disk s t same a b has = sym (same a b has)
 
--- an address that is not dirty: what the disk may show there is what is held, or what is beneath it
+-- at an address that is not dirty, the disk may show only the block that is held, or else the block beneath it
 pub not_dirty_beneath : (disk : ℕ → Values) (s : CacheList) → Agrees s disk → (a : ℕ) → (IsDirtyIn s a → ⊥) → (b : Block) → HasValue (disk a) b → (o : Option Held) → get s a ≡ o → b ≡ held_or o b
 not_dirty_beneath disk s agrees a none b has None at = refl
 not_dirty_beneath disk s agrees a none b has (Some h) at = elim (cases_Bool h.dirty) [
@@ -34,9 +35,9 @@ not_dirty_beneath disk s agrees a none b has (Some h) at = elim (cases_Bool h.di
   | inr f ↦ agrees a h b at f has
 ]
 
--- ---- without what is buffered, where no write is
+-- ---- without the buffered changes, if none of them is a write
 
--- what was left clean wasn't dirty
+-- an address that was left clean wasn't dirty
 not_here : (t : CacheList) (a k : ℕ) → IsMarked false t k → IsDirtyIn t a → (a == k) ≡ false
 not_here t a k left dirty = false_from_ne_true (a == k) (λ here.
     let both : Some dirty.0 ≡ Some left.0 = sym dirty.1 ∙ ap (λ (n : ℕ). get t n) (eqb-true a k here) ∙ left.1 in
@@ -54,7 +55,7 @@ dirty_each (x ∷ q) s none left a dirty =
     let p = or_parts (is_write x) (list_any is_write q) none in
     dirty_one x (undo q s) p.0 left.0 a (dirty_each q s p.1 left.1 a dirty)
 
--- what is dirty stays so
+-- a dirty address stays dirty
 pub undo_dirty : (g : Geometry) (q : List Buffered) (s : CacheList) → list_any is_write q ≡ false → MayWait g q s → (a : ℕ) → IsDirtyIn s a → IsDirtyIn (undo q s) a
 undo_dirty g q s none may = dirty_each q s none may.left
 
@@ -75,7 +76,7 @@ module _ (disk : ℕ → Values) where
   same_one (Cleaned k) t none left agrees a b has = ap (λ (o : Option Held). held_or o b) (get_without (Cleaned k) t a) ∙ marked_beneath (a == k) (get t a) b
   same_one (Written k old) t none left agrees a b has = absurd (false≢true (sym none))
 
-  -- what is clean once one is taken back, was clean
+  -- an address that is clean once one change is taken back was clean
   agrees_one : (x : Buffered) (t : CacheList) → is_write x ≡ false → Agrees t disk → Agrees (taken_back x t) disk
   agrees_one (Inserted k) t none agrees a h b at clean has = agrees a h b (taken (a == k) (get t a) h (sym (get_without (Inserted k) t a) ∙ at)) clean has
   agrees_one (Cleaned k) t none agrees a h b at clean has = agrees a h b (by_choice (a == k) (get t a) (sym (get_without (Cleaned k) t a) ∙ at)) clean has
@@ -87,7 +88,7 @@ module _ (disk : ℕ → Values) where
   agrees_one (Written k old) t none agrees a h b at clean has = absurd (false≢true (sym none))
 
   module _ (s : CacheList) (agrees : Agrees s disk) where
-    -- what is clean without it, was clean
+    -- an address that is clean without them was clean
     pub undo_agrees : (q : List Buffered) → list_any is_write q ≡ false → Agrees (undo q s) disk
     undo_agrees [] none = agrees
     undo_agrees (x ∷ q) none = let p = or_parts (is_write x) (list_any is_write q) none in agrees_one x (undo q s) p.0 (undo_agrees q p.1)
@@ -104,7 +105,7 @@ module _ (disk : ℕ → Values) where
 -- ---- once clean groups gave way
 
 module _ (g : Geometry) (s v : CacheList) (lba : ℕ) (vanish : Vanish g s lba v) where
-  -- what is left was there
+  -- a block that is left was there
   pub left_there : (a : ℕ) (h : Held) → get v a ≡ Some h → get s a ≡ Some h
   left_there a h at = by_choice (vanish.gone (a / g.p)) (sym (vanish.stays a) ∙ at)
     where
@@ -125,7 +126,7 @@ module _ (g : Geometry) (s v : CacheList) (lba : ℕ) (vanish : Vanish g s lba v
       beneath t None at = refl
       beneath t (Some h) at = agrees a h b at ((vanish.clean (a / g.p) t).clean a h at refl) has
 
-  -- what is dirty is left
+  -- a dirty block is left
   pub vanish_dirty : (a : ℕ) → IsDirtyIn s a → IsDirtyIn v a
   vanish_dirty a dirty = elim (cases_Bool (vanish.gone (a / g.p))) [
     | inl t ↦ absurd (false≢true (sym ((vanish.clean (a / g.p) t).clean a dirty.0 dirty.1 refl) ∙ dirty.2))
@@ -144,7 +145,7 @@ module _ (s : CacheList) (lba : ℕ) (block : Block) where
   pub written_here : get with_block lba ≡ Some (written_block lba block true)
   written_here = get_insert s lba (written_block lba block true) lba ∙ ap (λ t. cond t (Some (written_block lba block true)) (get s lba)) (let same : (lba == lba) ≡ true = grind (arith, nat_tests) in same)
 
-  -- what stands there is the block, or stood there
+  -- the block at an address is the written one, or the old one
   pub written_was : (a : ℕ) (h : Held) → get with_block a ≡ Some h → ((a ≡ lba) × (h ≡ written_block lba block true)) ⊎ (get s a ≡ Some h)
   written_was a h at = elim (cases_Bool (a == lba)) [
     | inl t ↦ inl (eqb-true a lba t, let same : Some (written_block lba block true) ≡ Some h = sym (ap (λ c. cond c (Some (written_block lba block true)) (get s a)) t) ∙ sym (get_insert s lba (written_block lba block true) a) ∙ at in let is : written_block lba block true ≡ h = cc in sym is)
@@ -180,7 +181,7 @@ module _ (s : CacheList) (lba : ℕ) (block : Block) where
   abbrev pub with_clean : CacheList
   with_clean = written_clean lba block s
 
-  -- what stands there is the block, or stood there
+  -- the block at an address is the new one, or the old one
   pub clean_was : (a : ℕ) (h : Held) → get with_clean a ≡ Some h → ((a ≡ lba) × (h ≡ written_block lba block false)) ⊎ (get s a ≡ Some h)
   clean_was a h at = elim (cases_Bool (a == lba)) [
     | inl t ↦ inl (eqb-true a lba t, let same : Some (written_block lba block false) ≡ Some h = sym (ap (λ c. cond c (Some (written_block lba block false)) (get s a)) t) ∙ sym (get_insert s lba (written_block lba block false) a) ∙ at in let is : written_block lba block false ≡ h = cc in sym is)
@@ -202,14 +203,14 @@ module _ (s : CacheList) (lba : ℕ) (block : Block) where
       | inr old ↦ agrees a h b old clean has
     ]
 
-    -- where the address wasn't dirty, nothing else is shown
+    -- if the address wasn't dirty, nothing else is shown
     pub clean_same : (IsDirtyIn s lba → ⊥) → IsSameOver disk s with_clean
     clean_same none a b has = ap (λ (o : Option Held). held_or o b) (get_insert s lba (written_block lba block false) a) ∙ elim (cases_Bool (a == lba)) [
       | inl t ↦ ap (λ c. held_or (cond c (Some (written_block lba block false)) (get s a)) b) t ∙ sym (only b (subst (λ (n : ℕ). HasValue (disk n) b) (eqb-true a lba t) has)) ∙ not_dirty_beneath disk s agrees a (λ dirty. none (subst (IsDirtyIn s) (eqb-true a lba t) dirty)) b has (get s a) refl
       | inr f ↦ ap (λ c. held_or (cond c (Some (written_block lba block false)) (get s a)) b) f
     ]
 
-  -- an address that wasn't dirty: each that was dirty stays so
+  -- if the address wasn't dirty, each dirty address stays dirty
   pub clean_dirty : (IsDirtyIn s lba → ⊥) → (a : ℕ) → IsDirtyIn s a → IsDirtyIn with_clean a
   clean_dirty none a dirty = elim (cases_Bool (a == lba)) [
     | inl t ↦ absurd (none (subst (IsDirtyIn s) (eqb-true a lba t) dirty))

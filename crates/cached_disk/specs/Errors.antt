@@ -1,4 +1,4 @@
--- What a volume answers where the media or the cache were refused.
+-- The errors of a volume after the media or the cache failed.
 use Rattle.std.specs.Prelude.{◌≡◌, ◌⊎◌, ◌≤◌, Bool, true, false, Result, Ok, Err, ⊤}
 use Rattle.ft_base.specs.declared.geometry.Geometry.{Geometry}
 use Rattle.ft_base.specs.Count.{Rose}
@@ -14,26 +14,26 @@ use Rattle.op_log.specs.Refusals.{IsRefusal}
 use Rattle.ssc.specs.declared.error.SscError.{SscError}
 use Rattle.ssc.specs.declared.error.SscError.TheVariants as ssc
 
--- for a refusal of the disk
+-- the error of a volume after the disk failed with this error
 abbrev pub disk_error : MediaError → VolumeError
 disk_error media.Failed = volume.DiskFault
 disk_error media.PowerLost = volume.PowerLost
 disk_error media.OutOfMemory = volume.OutOfMemory
 
--- what an opening answers for one
+-- the error of an opening after the disk failed with this error
 abbrev pub flush_error : MediaError → OpenError
 flush_error media.Failed = DiskFault
 flush_error media.PowerLost = PowerLost
 flush_error media.OutOfMemory = OutOfMemory
 
--- for a refusal of the cache, where it isn't full
+-- the error of a volume after the cache failed, if the cache isn't full
 abbrev pub IsOfCache : SscError → VolumeError → Type 0
 IsOfCache (ssc.Full dirty_groups limit) v = ⊥
 IsOfCache ssc.FlashFault v = v ≡ volume.FlashFault
 IsOfCache ssc.PowerLost v = v ≡ volume.PowerLost
 IsOfCache ssc.OutOfMemory v = v ≡ volume.OutOfMemory
 
--- the opening was refused by a device, by power or for want of memory, and not for what the flash is
+-- the opening failed because of a device, power or memory, and not because of the flash's contents
 abbrev pub IsFault : OpenError → Type 0
 IsFault NotFormatted = ⊥
 IsFault (OtherGeometry found wanted) = ⊥
@@ -43,7 +43,7 @@ IsFault DiskFault = ⊤
 IsFault PowerLost = ⊤
 IsFault OutOfMemory = ⊤
 
--- for such a refusal
+-- the error of a volume after such an error of an opening
 abbrev pub IsOfOpening : OpenError → VolumeError → Type 0
 IsOfOpening NotFormatted v = ⊥
 IsOfOpening (OtherGeometry found wanted) v = ⊥
@@ -53,7 +53,7 @@ IsOfOpening DiskFault v = v ≡ volume.DiskFault
 IsOfOpening PowerLost v = v ≡ volume.PowerLost
 IsOfOpening OutOfMemory v = v ≡ volume.OutOfMemory
 
--- the disk failed, or the refusal is the one that loading has, or a fault of the flash, a cut or want of memory
+-- the disk failed; or the error is the one that loading gives, or a fault of the flash, a cut or out of memory
 abbrev pub IsOpenRefusal : {A : Type 0} → Geometry → OpenError → Result A Refusal → Type 0
 IsOpenRefusal g e loads = (e ≡ DiskFault) ⊎ IsRefusal g e loads
 

@@ -1,4 +1,4 @@
--- What a cache over a disk is, and what it leaves on its media.
+-- A cache over a disk, and the media that it leaves.
 use Rattle.std.specs.Prelude.{◌≡◌, ◌⊎◌, ◌<◌, ◌≤◌, ◌+◌, ◌/◌, ◌==◌, ◌||◌, ℕ, Bool, true, false, List, [], length, map, filter, Ok, Result, OnOk, OnErr, IfErr, IsErrOf, ⊤}
 use Rattle.std.specs.List.{AllByRecursion}
 use Rattle.std.specs.FinMap.{get}
@@ -38,14 +38,14 @@ use Rattle.ssc.specs.CacheState.{Holds, IsUp, entries_of, geometry_of, log_room,
 use Rattle.cached_disk.specs.declared.disk.CachedDisk.{CachedDisk}
 use Rattle.cached_disk.specs.Errors.{CausedBy, IsOpenRefusal, disk_failed}
 
--- the cache or the disk was given up, so it is opened again first
+-- the cache or the disk was given up, so the volume is opened again first
 abbrev pub is_down : CachedDisk → Bool
 is_down v = v.down || v.cache.stopped
 
 abbrev pub told_of : CachedDisk → Told
 told_of v = told_for v.mode v.options
 
--- it was made with the same numbers and mode
+-- both were made with the same options and mode
 abbrev pub IsMadeAs : CachedDisk → CachedDisk → Type 0
 IsMadeAs old new = (new.options ≡ old.options) × (new.mode ≡ old.mode)
 
@@ -53,11 +53,12 @@ IsMadeAs old new = (new.options ≡ old.options) × (new.mode ≡ old.mode)
 abbrev pub dirty_of : CachedDisk → List ℕ
 dirty_of v = dirty_lbas (entries_of v.cache)
 
--- these groups in this order, each with its own of these addresses
+-- these groups in this order, each with its own addresses among these
 abbrev pub waiting_in : ℕ → List ℕ → List ℕ → Table
 waiting_in p order lbas = map (λ n. record { group = n; lbas = filter (λ a. a / p == n) lbas }) order
 
--- what it is at this moment, where its dirty groups are told in this order: each write is on the media when it answers, so nothing is owed
+-- the state of the volume at this moment, with its dirty groups in this order. Each write is on the media when it
+-- answers, so nothing is owed
 abbrev pub state_in : List ℕ → CachedDisk → VolumeState
 state_in order v = record {
   told = told_of v;
@@ -74,13 +75,13 @@ state_in order v = record {
 abbrev pub Loads : Told → (Place → Page) → Entries → Type 0
 Loads told page m = load told.geometry page ≡ Ok m
 
--- what is only buffered came clean
+-- the buffered change is a block that came clean
 abbrev pub IsInserted : Buffered → Type 0
 IsInserted (Inserted a) = ⊤
 IsInserted (Cleaned a) = ⊥
 IsInserted (Written a old) = ⊥
 
--- what a crash may undo: where it writes through, that makes no block dirty
+-- the changes that a crash may undo: if the volume writes through, undoing them makes no block dirty
 abbrev pub MayUndo : Mode → List Buffered → Type 0
 MayUndo Back q = ⊤
 MayUndo Through q = AllByRecursion IsInserted q
@@ -91,7 +92,7 @@ pub record IsBeneath (told : Told) (contents : Contents) (list : CacheList) : Ty
   pub agrees : Agrees list contents.disk
   pub suits : Suits told.mode list
 
--- its cache holds this list, which agrees with the disk: only what is dirty may wait for a flush
+-- the cache holds this list, which agrees with the disk: only dirty blocks may wait for a flush
 pub record IsHeld (v : CachedDisk) (contents : Contents) (list : CacheList) : Type 0 where
   pub holds : Holds v.cache contents list
   pub agrees : Agrees list contents.disk
@@ -99,7 +100,8 @@ pub record IsHeld (v : CachedDisk) (contents : Contents) (list : CacheList) : Ty
   pub suits : Suits v.mode list
   pub undo : MayUndo v.mode (pending v.cache)
 
--- the contents are those that it left: a crash leaves the list beneath, and while it is up it holds one
+-- the contents are the ones that the volume left: a crash leaves the list beneath, and while the volume is up it holds
+-- a list
 pub record IsLeft (v : CachedDisk) (contents : Contents) : Type 0 where
   pub own : geometry_of v.cache ≡ v.options.geometry
   pub shape : FitsOn v.options.geometry contents.shape
@@ -108,18 +110,18 @@ pub record IsLeft (v : CachedDisk) (contents : Contents) : Type 0 where
   pub held : CacheList
   pub up : is_down v ≡ false → IsHeld v contents held
 
--- it may serve a call: the contents are those that it left, and it is up
+-- the volume may serve a call: the contents are the ones that it left, and it is up
 pub record MayServe (v : CachedDisk) (contents : Contents) : Type 0 where
   pub left : IsLeft v contents
   pub up : is_down v ≡ false
 
--- the plain disk that a list over a disk is, below the size
+-- the plain disk of a list over a disk, below the size
 abbrev pub IsVolume : Geometry → CacheList → Contents → PlainDisk → Type 0
 IsVolume g s contents d = (a : ℕ) → a < g.size → vol s (λ lba. (contents.disk lba).newest) a ≡ d a
 
--- ---- what a call does
+-- ---- the effects of a call
 
--- a call that lets no block become dirty or clean: what it does, whatever it answers
+-- a call that makes no block dirty or clean, and its effects, whatever it answers
 pub record Serves {T : Type 0} (call : Call) (old new : CachedDisk) (before after : State) (result : Result T VolumeError) : Type 0 where
   pub left : IsLeft new after.contents
   pub was : (order : List ℕ) (base : PlainDisk) → StandFor (ImageIs (told_of old)) before.contents base
@@ -129,21 +131,22 @@ pub record Serves {T : Type 0} (call : Call) (old new : CachedDisk) (before afte
   pub made : IsMadeAs old new
   pub within : IsErrOf result OutOfVolume → ⊥
 
--- with Ok so many blocks were written to the disk; else no more; and none was read from it
+-- after `Ok` n blocks were written to the disk, else at most n; and none was read from it
 pub record WritesDisk (n : ℕ) (before after : State) (result : Result (Unit {0}) VolumeError) : Type 0 where
   pub exact : OnOk result (RoseBy n before.counts.disk_writes after.counts.disk_writes)
   pub most : after.counts.disk_writes ≤ before.counts.disk_writes + n
   pub reads : after.counts.disk_reads ≡ before.counts.disk_reads
 
--- no call of the disk was made that it counts
+-- no counted call of the disk was made
 pub record AsksNoDisk (before after : State) : Type 0 where
   pub disk_reads : after.counts.disk_reads ≡ before.counts.disk_reads
   pub disk_writes : after.counts.disk_writes ≡ before.counts.disk_writes
   pub disk_flushes : after.counts.disk_flushes ≡ before.counts.disk_flushes
 
--- ---- what an opening leaves
+-- ---- the effects of an opening
 
--- an opening neither reads nor writes a block of the disk, which it flushes once at most; and power and the faults go on as it answers
+-- an opening neither reads nor writes a block of the disk, and flushes it once at most; and power and the faults change
+-- as its answer says
 pub record OnlyOpens {T : Type 0} (before after : State) (result : Result T OpenError) : Type 0 where
   pub ready : OnOk result (KeepsReady before after)
   pub disk_reads : after.counts.disk_reads ≡ before.counts.disk_reads
@@ -152,23 +155,23 @@ pub record OnlyOpens {T : Type 0} (before after : State) (result : Result T Open
   pub cause : CausedBy before.faults after.faults (open_failed result) (disk_failed result) (open_lost result)
   pub passes : Passes before after (open_lost result)
 
--- an opening of flash of this geometry, whatever it answers, and wherever power went off
+-- an opening of flash of this geometry, whatever it answers, and whenever power goes off
 pub record IsOpening {T : Type 0} (g : Geometry) (before after : State) (result : Result T OpenError) : Type 0 where
   pub opens : Opens g before.contents after.contents (disk_failed result) (open_lost result)
   pub refused : IfErr result (λ e. IsOpenRefusal g e (load g before.contents.flash.page))
   pub goes : OnlyOpens before after result
 
--- the disk was flushed, and beside that nothing was written
+-- the disk was flushed, and nothing else was written
 pub record OnlyFlushed (before after : State) : Type 0 where
   pub flash : after.contents.flash ≡ before.contents.flash
   pub counts : after.counts ≡ flush_counted before.counts
 
--- an opening that is refused has only read, beside the flush of the disk, unless a device failed or power was lost
+-- after `Err` an opening has only read, apart from the flush of the disk, unless a device failed or power was lost
 abbrev pub WritesNothingRefused : {T : Type 0} → State → State → Result T OpenError → Type 0
 WritesNothingRefused before after result = OnErr result (open_failed result ≡ false → disk_failed result ≡ false → open_lost result ≡ false
     → OnlyFlushed before after)
 
--- the plain disk that the flash and the disk were is the one that the opened media are
+-- the opened media stand for the plain disk that the flash and the disk were
 abbrev pub StandsOpened : Told → Contents → Contents → Type 0
 StandsOpened told before after = (s : CacheList) → FlashStandsFor told.geometry before.flash.page s
     → (d : PlainDisk) → IsVolume told.geometry s before d → StandFor (ImageIs told) after d
@@ -184,7 +187,7 @@ pub record IsOpenCache (g : Geometry) (old new : Contents) (c : Ssc) : Type 0 wh
   pub log : log_room c ≡ log_pages g
   pub closed : open_room c ≡ 0
 
--- it was made of these, and opened over flash that stood for this list
+-- a volume that was made with this mode and these options, and opened over flash that stood for this list
 pub record IsFresh (mode : Mode) (options : Options) (s : CacheList) (v : CachedDisk) : Type 0 where
   pub made : v.options ≡ options
   pub written : v.mode ≡ mode
@@ -195,11 +198,11 @@ pub record IsFresh (mode : Mode) (options : Options) (s : CacheList) (v : Cached
   pub closed : open_room v.cache ≡ 0
   pub nothing_waits : pending v.cache ≡ []
 
--- in this order the dirty groups are told as if each dirty block had been written, ascending
+-- in this order the dirty groups stand as if each dirty block had been written, ascending
 abbrev pub IsOrderOf : List ℕ → CachedDisk → Type 0
 IsOrderOf order v = waiting_in v.options.geometry.p order (dirty_of v) ≡ table_of v.options.geometry.p [] (dirty_of v)
 
--- it was opened again where it was down
+-- the volume was opened again if it was down
 pub record Reopens {T : Type 0} (old new : CachedDisk) (before after : State) (result : Result T VolumeError) : Type 0 where
   pub made : IsMadeAs old new
   pub same : is_down old ≡ false → (new ≡ old) × (after ≡ before)

@@ -1,4 +1,4 @@
--- The two steps of an opening: what was loaded after a flush of the disk, and what the whole opening says.
+-- The two steps of an opening: the load after a flush of the disk, and the effects of the whole opening.
 use Rattle.std.specs.Prelude.{◌≡◌, ℕ, Ok, Result, OnOk, IfOk}
 use Rattle.ft_base.specs.Contents.{flushed}
 use Rattle.ft_media.specs.State.{State}
@@ -23,7 +23,7 @@ pub record LoadedSince (g : Geometry) (start now : State) (c : LoadedCache) : Ty
   pub only : OnlyFlushed start now
   pub goes : OnlyOpens {T = LoadedCache} start now (Ok c)
 
--- all that an opening says, from its start on
+-- all effects of an opening, from its start on
 pub record OpensDisk (mode : Mode) (options : Options) (start after : State) (result : Result CachedDisk OpenError) : Type 0 where
   pub owns : IfOk result (λ v. IsLeft v after.contents)
   pub opened : IfOk result (λ v. OpensOver (told_for mode options) start.contents.flash.page (λ s. IsFresh mode options s v) (told_of v)

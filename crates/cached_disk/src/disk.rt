@@ -12,25 +12,25 @@ use ft_volume::{Mode, Options};
 use ssc::Ssc;
 use std::alloc::Global;
 
-/// A cache over flash before a disk. A clean block that it holds is the disk's block, and where it writes
-/// through every block that it holds is clean.
+/// A cache over flash in front of a disk. A clean block that it holds is the disk's block. If it writes through, every
+/// block that it holds is clean.
 #[derive(Drop)]
 pub struct CachedDisk {
-    /// Where its memory comes from.
+    /// The allocator.
     pub alloc: Global,
-    /// The numbers with which it was made.
+    /// The options with which it was made.
     pub options: Options,
-    /// How it is written to.
+    /// How writes get to the disk.
     pub mode: Mode,
     /// The cache over the flash.
     pub cache: Ssc,
-    /// It is to be opened again though the cache goes on: power was cut, a write or a flush of the disk failed,
-    /// a page that was to be written back couldn't be read, or an opening lacked the memory of its table.
+    /// The volume must be opened again though the cache goes on. Power was cut, or a write or a flush of the disk
+    /// failed. Or a page to be written back couldn't be read, or an opening lacked the memory of its table.
     pub down: bool,
 }
 
 impl CachedDisk {
-    /// Whether it is to be opened again before it is used.
+    /// Whether the volume must be opened again before it is used.
     pub fn is_down(&self) -> bool
         ensures { result ≡ kept.is_down self.now }
     {

@@ -6,7 +6,7 @@ use ft_volume::VolumeError;
 use op_log::OpenError;
 use ssc::SscError;
 
-/// What a volume answers where the disk answered this.
+/// The error of a volume after the disk answered this error.
 pub fn disk_error(error: MediaError) -> VolumeError
     ensures { result ≡ errors.disk_error error }
 {
@@ -17,7 +17,7 @@ pub fn disk_error(error: MediaError) -> VolumeError
     }
 }
 
-/// What an opening answers where the flush of the disk answered this.
+/// The error of an opening after the flush of the disk answered this error.
 pub fn flush_error(error: MediaError) -> OpenError
     ensures { result ≡ errors.flush_error error }
 {
@@ -28,7 +28,7 @@ pub fn flush_error(error: MediaError) -> OpenError
     }
 }
 
-/// What a volume answers where the cache answered this, which is not that it is full.
+/// The error of a volume after the cache answered this error, which is not `Full`.
 pub fn cache_error(error: SscError) -> VolumeError
     requires { (n limit : ℕ) → error ≡ SscError.Full n limit → ⊥ }
     ensures { errors.IsOfCache error result }
@@ -41,7 +41,8 @@ pub fn cache_error(error: SscError) -> VolumeError
     }
 }
 
-/// What a volume answers where an opening of its cache answered this, which is not a refusal of what the flash is.
+/// The error of a volume after an opening of its cache answered this error, which doesn't come from the flash's
+/// contents.
 pub fn open_error(error: OpenError) -> VolumeError
     requires { errors.IsFault error }
     ensures { errors.IsOfOpening error result }

@@ -1,9 +1,8 @@
-//! A cache over flash before a disk: what a volume does alike whether it writes through or back.
+//! A cache over flash in front of a disk: the parts of a volume that are the same whether it writes through or back.
 //!
-//! The layer above relies on this: each image that a crash may leave of the media stands for a plain disk, and
-//! its cache agrees with the disk at each clean address (`specs/Kept`). Opening again, reads
-//! that keep what they brought from the disk, flushes, reports, checkpoints and cuts keep that, and say what
-//! they leave of the dirty addresses.
+//! The layer above relies on this: each image that a crash may leave of the media stands for a plain disk. Its cache
+//! agrees with the disk at each clean address (`specs/Kept`). Reopening, reads that cache a block of the disk, flushes,
+//! reports, checkpoints and cuts keep this, and say which dirty addresses they leave.
 #![tactic(auto)]
 
 mod disk;

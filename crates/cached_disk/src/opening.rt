@@ -17,22 +17,22 @@ use op_log::OpenError;
 use ssc::{LoadedCache, Ssc};
 use std::alloc::Global;
 
-/// A disk that was flushed, and a cache before it that was loaded, of which no checkpoint is made yet. It is the
-/// first of the two steps of an opening: what a caller refuses between them has written nothing beside that flush.
+/// A disk that was flushed, and a loaded cache in front of it, before its checkpoint is made. It is the first of the
+/// two steps of an opening: a caller that stops between them has written nothing but that flush.
 #[derive(Drop)]
 pub struct LoadedDisk {
-    /// Where its memory comes from.
+    /// The allocator.
     pub alloc: Global,
-    /// The numbers with which it is opened.
+    /// The options with which it is opened.
     pub options: Options,
-    /// How it is to be written to.
+    /// How writes will get to the disk.
     pub mode: Mode,
     /// The cache that was loaded.
     pub cache: LoadedCache,
 }
 
 impl CachedDisk {
-    /// Formats the flash and opens it, whatever it was before. The plain disk is then what the disk has.
+    /// Formats the flash and opens it, whatever it was before. The plain disk then has the disk's blocks.
     pub fn create<M: Media>(
         alloc: Global,
         media: &mut M,
@@ -59,8 +59,8 @@ impl CachedDisk {
         }
     }
 
-    /// Opens the flash that it left, after a flush of the disk. Clean blocks that it holds are those of
-    /// the disk. Unless a device failed or power was lost, a refusal writes nothing beside that flush.
+    /// Opens the flash that the volume left, after a flush of the disk. Its clean blocks are the disk's blocks. On
+    /// `Err` it has written nothing but that flush, unless a device failed or power was lost.
     pub fn open<M: Media>(
         alloc: Global,
         media: &mut M,
@@ -80,7 +80,7 @@ impl CachedDisk {
         loaded.seal(media)
     }
 
-    /// Opens the cache again where it was cut off or given up.
+    /// Opens the cache again if it was cut off or given up.
     pub fn bring_up<M: Media>(&mut self, media: &mut M) -> Result<(), VolumeError>
         requires { IsLeft self.old (M.state media.old).contents }
         ensures left { IsLeft self.new (M.state media.new).contents }
@@ -101,8 +101,8 @@ impl CachedDisk {
 }
 
 impl LoadedDisk {
-    /// Flushes the disk, and loads what the flash stands for. Unless a device failed or power was lost, a refusal
-    /// writes nothing beside that flush.
+    /// Flushes the disk, and loads the list for which the flash stands. On `Err` it has written nothing but that flush,
+    /// unless a device failed or power was lost.
     pub fn load<M: Media>(
         alloc: Global,
         media: &mut M,
@@ -124,13 +124,13 @@ impl LoadedDisk {
         })
     }
 
-    /// Makes the checkpoint of what was loaded. It takes no memory, and makes no call of the disk.
+    /// Makes the checkpoint of the loaded cache. It allocates nothing, and makes no call of the disk.
     pub fn seal<M: Media>(self, media: &mut M) -> Result<CachedDisk, OpenError>
         requires { (start : State) × LoadedSince self.options.geometry start (M.state media.old) self.cache }
         ensures entries { IfOk result (λ v. entries_of v.cache ≡ entries_of self.cache.cache) }
-        // The flash failed or power was lost, and no memory was wanting.
+        // The flash failed or power was lost; memory never fails.
         ensures refused { IfErr result IsOfFlash }
-        // All that an opening says, of what was there before the load.
+        // All effects of an opening, on the media before the load.
         ensures opens { (start : State) → LoadedSince self.options.geometry start (M.state media.old) self.cache
             → MayOpen (told_for self.mode self.options) start.contents → OpensDisk self.mode self.options start (M.state media.new) result }
     {
@@ -147,8 +147,8 @@ impl LoadedDisk {
     }
 }
 
-/// Loads a cache after a flush of the disk. Unless a device failed or power was lost, a refusal has only read since
-/// the flush.
+/// Loads a cache after a flush of the disk. On `Err` it has only read since the flush, unless a device failed or power
+/// was lost.
 fn load_cache<M: Media>(
     alloc: Global,
     media: &mut M,
@@ -165,9 +165,9 @@ fn load_cache<M: Media>(
     }
 }
 
-/// Opens a cache after a flush of the disk, so that no value of the disk waits while the cache is used.
-/// Refused or cut, the media stand for what they stood for. Unless a device failed or power was lost, a
-/// refusal has only read since the flush.
+/// Opens a cache after a flush of the disk, so that no value of the disk waits while the cache is used. If it fails or
+/// is cut, the media still stand for the same plain disk. On `Err` it has only read since the flush, unless a device
+/// failed or power was lost.
 fn open_cache<M: Media>(alloc: Global, media: &mut M, geometry: &Geometry) -> Result<Ssc, OpenError>
     requires shape { FitsOn geometry.now (M.state media.old).contents.shape }
     ensures opened { IfOk result (λ c. IsOpenCache geometry.now (M.state media.old).contents (M.state media.new).contents c) }

@@ -11,8 +11,8 @@ use ft_media::Media;
 use ft_volume::VolumeError;
 
 impl CachedDisk {
-    /// Reads a block from the cache, or else from the disk. What was read from the disk is held when it answers,
-    /// clean.
+    /// Reads a block from the cache, or else from the disk. When the call answers `Ok`, a block that came from the disk
+    /// is held, clean.
     pub fn read<M: Media>(
         &mut self,
         media: &mut M,
@@ -35,8 +35,8 @@ impl CachedDisk {
         }
     }
 
-    /// Reads from the disk a block that the cache doesn't hold, and holds it. The memory is taken first;
-    /// refused, the caller's block is as before, so the block comes into one of our own.
+    /// Reads from the disk a block that the cache doesn't hold, and holds it. The memory is taken first. On `Err` the
+    /// caller's block is unchanged, so the block is first read into a buffer here.
     fn read_missing<M: Media>(
         &mut self,
         media: &mut M,

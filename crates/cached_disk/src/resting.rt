@@ -15,7 +15,7 @@ use ft_media::Media;
 use ft_volume::{Idled, Report, VolumeError};
 
 impl CachedDisk {
-    /// Puts all that the cache buffers on the flash.
+    /// Puts all buffered changes of the cache on the flash.
     pub fn flush<M: Media>(&mut self, media: &mut M) -> Result<(), VolumeError>
         requires may { MayServe self.old (M.state media.old).contents }
         ensures serves { Serves Flushes self.old self.new (M.state media.old) (M.state media.new) result }
@@ -34,8 +34,8 @@ impl CachedDisk {
         }
     }
 
-    /// Puts all that the cache buffers on the flash, reads each page that is held, and says what there is.
-    /// Where it is up then, nothing is buffered.
+    /// Puts all buffered changes of the cache on the flash, reads each page that is held, and counts them. If the
+    /// volume is then up, nothing is buffered.
     pub fn report<M: Media>(&mut self, media: &mut M) -> Result<Report, VolumeError>
         requires may { MayServe self.old (M.state media.old).contents }
         ensures serves { Serves Reports self.old self.new (M.state media.old) (M.state media.new) result }
@@ -44,7 +44,7 @@ impl CachedDisk {
         ensures asks { (order : List ℕ) → AsksDevices Reports (state_in order self.old) (state_in order self.old) (state_in order self.new)
             (M.state media.old) (M.state media.new) result }
         ensures report { IfOk result (IsReport self.old.options.geometry (entries_of self.new.cache)) }
-        // The flash has just these entries.
+        // The flash has exactly these entries.
         ensures loads { OnOk result (Loads (told_of self.old) (M.state media.new).contents.flash.page (entries_of self.new.cache)) }
         ensures nothing_waits { kept.is_down self.new ≡ false → pending self.new.cache ≡ [] }
         ensures faulted { IsErrOf result VolumeError.DiskFault → kept.is_down self.new ≡ true }
@@ -64,8 +64,8 @@ impl CachedDisk {
         }
     }
 
-    /// Makes a checkpoint where no more than half of the log is left. An idle step does this where no group
-    /// is to be written back.
+    /// Makes a checkpoint if at most half of the log is left. An idle step does this when no group is to be written
+    /// back.
     pub fn checkpoint_if_due<M: Media>(&mut self, media: &mut M) -> Result<Idled, VolumeError>
         requires may { MayServe self.old (M.state media.old).contents }
         ensures serves { Serves Idles self.old self.new (M.state media.old) (M.state media.new) result }

@@ -1,4 +1,4 @@
--- The records of a page among those that were asked for.
+-- The records of a page in the list that was asked for.
 use Rattle.std.proofs.Common.{◌≡◌, ℕ, zero, suc, ◌+◌, ◌-◌, ◌*◌, ◌/◌, ◌%◌, ◌<◌, ◌≤◌, List, length, take, drop, min, inl, inr, refl, sym, ◌∙◌, ap, subst, arith}
 use Rattle.std.proofs.Math.Nat.{mul-le-mul_left}
 use Rattle.std.proofs.lemmas.List.{drop-take, take-take, drop-drop}
@@ -10,7 +10,7 @@ use Rattle.checkpoint.specs.Regions.{part}
 use Rattle.checkpoint.proofs.ListsLemmas.{part_is}
 
 module _ (g : Geometry) (rs asked : List Record) where
-  -- a page lies behind the first one that is asked for with it
+  -- a page comes after the first page whose records are asked for together with its own
   behind : (i : ℕ) → page_records g * i ≡ first_asked g i + page_records g * (i % asked_pages)
   behind i =
       let split : i ≡ asked_pages * (i / asked_pages) + i % asked_pages = omega arith in
@@ -24,7 +24,7 @@ module _ (g : Geometry) (rs asked : List Record) where
       let most : count ≡ count_asked g rs i = few ∙ ap (λ n. min (asked_records g) (length rs - n)) at in
       subst (λ n. take n asked ≡ take n (drop (first_asked g i) rs)) most (same ∙ ap (λ n. take count (drop n rs)) at)
 
-  -- the next page is asked for with this one, or is the first of its own
+  -- the next page's records are asked for with this page's, or are the first of their own list
   pub asked_next : (i : ℕ) → HasRun g rs i asked → IsAskedFor g rs (i + 1) asked
   asked_next i run = by ((i + 1) % asked_pages) refl
     where

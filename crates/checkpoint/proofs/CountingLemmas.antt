@@ -1,4 +1,4 @@
--- A checkpoint has no more records than its region has room for.
+-- A checkpoint has at most as many records as its region has room for.
 use Rattle.std.proofs.Common.{◌≡◌, ℕ, ◌+◌, ◌*◌, ◌<◌, ◌≤◌, List, length, map, filter, inl, inr, sym, ◌∙◌, ap, subst, arith, length-append}
 use Rattle.std.specs.FinMap.{entries}
 use Rattle.std.proofs.lemmas.Bool.{cases_lt}
@@ -59,6 +59,6 @@ more_left g records i pages count low = elim (cases_lt (page_records g * i) (len
 pub listing_here : (g' g : Geometry) (m : Entries) (records : List Record) → g' ≡ g → IsCheckpointOf g' m records → IsCheckpointOf g m records
 listing_here g' g m records same listed = subst (λ (x : Geometry). IsCheckpointOf x m records) same listed
 
--- the map pages of so many records, and the seal, fit the region
+-- the map pages of this many records, and the seal, fit the region
 pub pages_fit : (g' g : Geometry) (m : Entries) (records : List Record) (n pages : ℕ) → pages ≡ rounded_up n (page_records g) → g' ≡ g → IsMap g m → IsCheckpointOf g' m records → n ≡ length records → pages < checkpoint_pages g
 pages_fit g' g m records n pages count same is_map listed is = subst (λ k. k < checkpoint_pages g) (sym (count ∙ ap (λ k. rounded_up k (page_records g)) is)) (maps_fit g m is_map records (listing_here g' g m records same listed))

@@ -1,4 +1,4 @@
--- Counts that rise by one and one, up to their last value.
+-- Counts that rise by one at a time, up to their last value.
 use Rattle.std.proofs.Common.{◌≡◌, ℕ, false, ◌+◌, ◌*◌, ◌≤◌, ◌∙◌, ap, ap₂, subst, arith}
 use Rattle.ft_base.specs.declared.geometry.Geometry.{Geometry}
 use Rattle.ft_base.specs.Count.{last_count}
@@ -46,7 +46,7 @@ checkpoint_made g n pages first erased mapped last same is is' is'' = programs_m
 pub format_made : (g : Geometry) (n : ℕ) (first erased last : Counts) → n ≡ 2 * k g + g.j → erased ≡ erases_counted n first → last ≡ program_counted erased → last ≡ format_counted g first
 format_made g n first erased last same is is' = is' ∙ ap program_counted is ∙ ap (λ m. programs_counted 1 (erases_counted m first)) same
 
--- what came before programs no fewer
+-- calls before a call program at least as many pages together with it
 pub programs_after : (a b c : State) (n : ℕ) → Passes a b false → ProgramsPages n b c → ProgramsPages n a c
 programs_after a b c n passes then = record {
   count = let first = passes.counts.programs in let later = then.count in omega (arith, first, later);

@@ -10,7 +10,7 @@ use Rattle.cache_model.specs.Laws.{IsMapOrLost}
 use Rattle.checkpoint.specs.Regions.{IsBlockWithin, AreLost, AreBlank, StaysBeside, IsBare}
 use Rattle.checkpoint.proofs.PlacesLemmas.{checkpoint_within, checkpoint_no_log}
 
--- elsewhere nothing is lost
+-- no page outside of these erase blocks is lost
 pub lost_elsewhere : (first count : ℕ) (old new : Place → Page) → AreLost first count old new → (at : Place) → (IsBlockWithin first count at.block → ⊥) → new at ≡ old at
 lost_elsewhere first count old new lost at out = elim (lost at) [
   | inl same ↦ same

@@ -1,4 +1,4 @@
--- One page more in the log, with all that was buffered.
+-- One more page in the log, with all buffered records.
 use Rattle.std.proofs.Common.{◌≡◌, ◌≢◌, ℕ, ◌+◌, ◌*◌, ◌/◌, ◌%◌, ◌<◌, ◌≤◌, Option, List, [], ◌∷◌, take, Some, ok_or, Result, Ok, Err, OnOk, refl, sym, ◌∙◌, ap, ap₂, subst, arith, inl, inr}
 use Rattle.std.proofs.lemmas.Bool.{cases_eq, cases_lt}
 use Rattle.std.proofs.lemmas.Nat.{div-add-mod', div-mul-add, mod_below}
@@ -30,13 +30,13 @@ use Rattle.checkpoint.proofs.MapsLemmas.{ready_after}
 use Rattle.cache_model.proofs.LogLemmas.{set_page-here}
 use Rattle.checkpoint.proofs.SealedLemmas.{load_from, current_map, current_low}
 
--- ---- where something is buffered
+-- ---- if something is buffered
 
 if_some : {A : Type 0} (changes : List Record) (x y : A) → changes ≢ [] → if_buffered changes x y ≡ x
 if_some [] x y some = absurd (some refl)
 if_some (change ∷ changes) x y some = refl
 
--- the log after a flush, where something was buffered
+-- the log after a flush, if something was buffered
 abbrev pub one_longer : LogValue → LogValue
 one_longer log = record log { next = log.next + 1; buffered = [] }
 
@@ -98,7 +98,7 @@ log_ahead log contents opened ahead room i low high = elim (cases_eq (log.next /
               | inr down ↦ let step : (i / p + 1) * p ≤ n / p * p = product (i / p + 1) (n / p) p (omega arith) in let one : (i / p + 1) * p ≡ i / p * p + p = omega arith in absurd (omega arith)
             ]
 
--- ---- what a flush leaves, whatever it answers
+-- ---- the flash after a flush, whatever the flush answers
 
 module _ (log : LogValue) (m : Entries) (before : Contents) (new : Flash) (current : IsCurrent before.flash.page log m) (opened : IsOpenLog before.flash log) (ahead : IsBlankAhead before) (room : log.next < log_pages log.geometry) where
   abbrev old : Flash
@@ -110,7 +110,7 @@ module _ (log : LogValue) (m : Entries) (before : Contents) (new : Flash) (curre
   low : log.region < 2
   low = current_low log old.page m current
 
-  -- the checkpoint that counts has the stamp of what is written
+  -- the checkpoint that counts has the stamp of pages that are written
   newest_stamp : current.newest.stamp ≡ own_stamp log.era
   newest_stamp = ap₂ (λ f e. record { format = f; era = e }) (opened.format checkpoint_now (newest_is log.geometry old.page checkpoint_now current.chosen)) current.era
 

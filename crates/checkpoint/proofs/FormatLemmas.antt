@@ -1,4 +1,4 @@
--- An empty checkpoint, sealed where the regions are erased.
+-- An empty checkpoint, sealed in erased regions.
 use Rattle.std.proofs.Common.{◌≡◌, ℕ, ◌+◌, ◌-◌, ◌*◌, ◌/◌, ◌<◌, false, true, List, [], length, map, filter, count_by, refl, sym, ◌∙◌, ap, subst, arith}
 use Rattle.std.specs.FinMap.{get}
 use Rattle.std.proofs.lemmas.Nat.{mul-le, le-div}
@@ -21,12 +21,12 @@ use Rattle.checkpoint.proofs.MapsLemmas.{maps_none, maps_bare}
 use Rattle.checkpoint.proofs.WrittenLemmas.{seal_done}
 use Rattle.checkpoint.proofs.SealedLemmas.{formatted}
 
--- ---- a map of nothing
+-- ---- an empty map
 
 pub empty_whole : (page : Place → Page) (m : Entries) → m ≡ no_entries → AreWhole page m
 empty_whole page m none = record { whole = λ a e at. absurd (none_in_no_entries a e (sym (ap (λ (n : Entries). get n a) none) ∙ at)) }
 
--- it has a checkpoint of no records
+-- an empty map has a checkpoint without records
 nothing_listed : (g : Geometry) → IsCheckpointOf g no_entries []
 nothing_listed g = record {
   groups = [];
@@ -47,7 +47,7 @@ nothing_listed g = record {
     no_true : false ≡ true → ⊥
     no_true e = absurd (cc)
 
--- ---- its seal
+-- ---- the seal of the empty map
 
 -- nothing is held
 abbrev pub no_totals : Totals

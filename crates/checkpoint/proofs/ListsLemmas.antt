@@ -16,7 +16,7 @@ use Rattle.ft_base.specs.Layout.{page_records}
 
 -- ---- pages
 
--- the pages before one, the page, and those behind it
+-- the pages before a page, the page, and the pages behind it
 pub pages_split : (page : Place → Page) (at : ℕ → Place) (i n most : ℕ) → n < most → pages_from page at i most ≡ pages_from page at i n ++ page (at (i + n)) ∷ pages_from page at (i + n + 1) (most - (n + 1))
 pages_split page at i n zero low = absurd (omega arith)
 pages_split page at i zero (suc most) low = ap₂ (λ a b. page (at a) ∷ pages_from page at (a + 1) b) (let e : i ≡ i + 0 = omega arith in e) (let e : most ≡ suc most - (0 + 1) = omega arith in e)
@@ -72,7 +72,7 @@ pub part_is : (g : Geometry) (rs out : List Record) (count i : ℕ) → count �
 unfolding part
 part_is g rs out count i few same = least_is rs out (page_records g) (page_records g * i) count few same
 
--- ---- what holds of each
+-- ---- facts that hold of each record
 
 all-take : {A : Type 0} (test : A → Bool) (n : ℕ) (xs : List A) → list_all test xs ≡ true → list_all test (take n xs) ≡ true
 all-take test zero xs all = refl

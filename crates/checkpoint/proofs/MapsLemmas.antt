@@ -25,7 +25,8 @@ use Rattle.cache_model.proofs.LogLemmas.{set_page-here}
 pub set-here : (f : ℕ → Option ℕ) (i j : ℕ) (v : Option ℕ) → i ≡ j → set f i v j ≡ v
 set-here f i j v same = ap (λ b. cond b v (f j)) (eq-eqb i j same)
 
--- of two pages the later one is the next, or the first of an erase block: in the same erase block it is the next, and in another the first
+-- of two pages the later one is the next, or the first of an erase block. In the same erase block it is the next, and
+-- in another erase block it is the first
 same_row : (p i j : ℕ) → i < j → (j ≡ i + 1) ⊎ (j % p ≡ 0) → i / p ≡ j / p → i % p + 1 ≡ j % p
 same_row p i j lt which row =
     let here = div-add-mod' i p in
@@ -47,7 +48,7 @@ other_row p i j some lt which row = elim which [
       ]
 ]
 
--- what is ready after a program of page i of a region
+-- the pages that are ready after a program of page i of a region
 pub ready_after : (g : Geometry) (base i j : ℕ) (next : ℕ → Option ℕ) → i < j → (j ≡ i + 1) ⊎ ((page_from g base j).page ≡ 0)
     → ((page_from g base j).page ≡ 0 → next (page_from g base j).block ≡ Some (page_from g base j).page)
     → set next (page_from g base i).block (Some ((page_from g base i).page + 1)) (page_from g base j).block ≡ Some (page_from g base j).page
@@ -56,7 +57,7 @@ ready_after g base i j next lt which was = elim (cases_eq (i / g.p) (j / g.p)) [
   | inr apart ↦ set_other next _ _ _ (λ e. apart (add_left_cancel base e)) ∙ was (other_row g.p i j (omega (arith, g.in_range.p_low)) lt which apart)
 ]
 
--- ---- one page more
+-- ---- one more page
 
 pub outside : (g : Geometry) (region i : ℕ) (at : Place) → i < checkpoint_pages g → (InCheckpoint g region at.block → ⊥) → at ≡ checkpoint_at g region i → ⊥
 outside g region i at within out same = out (subst (λ (p : Place). InCheckpoint g region p.block) (sym same) (checkpoint_within g region i within))

@@ -1,4 +1,4 @@
--- Where the pages of the regions lie.
+-- The places of the regions' pages.
 use Rattle.std.proofs.Common.{◌≡◌, ℕ, zero, suc, ◌+◌, ◌-◌, ◌*◌, ◌/◌, ◌%◌, ◌<◌, ◌≤◌, sym, ◌∙◌, ap, ap₂, arith}
 use Rattle.std.proofs.lemmas.Nat.{div-add-mod', div_below}
 use Rattle.std.proofs.Math.Nat.{add_left_cancel}
@@ -43,7 +43,7 @@ checkpoint_low g region b low within = by_number (k g) within
 pub log_between : (g : Geometry) (region b : ℕ) → region < 2 → InLog g region b → (2 * k g ≤ b) × (b < 2 * k g + 2 * g.j)
 log_between g region b low within = two_below (2 * k g) region g.j b low within
 
--- a checkpoint region is none of the other one, and no log
+-- a block of a checkpoint region lies neither in the other one, nor in a log
 pub checkpoint_alone : (g : Geometry) (region b : ℕ) → region < 2 → InCheckpoint g region b → InCheckpoint g (1 - region) b → ⊥
 checkpoint_alone g region b low within other = two_apart 0 region (k g) b low (with_base region (k g) b within) (with_base (1 - region) (k g) b other)
 
@@ -71,7 +71,7 @@ pool_no_log g region b low pool within = by_number (k g) pool (log_between g reg
 pub other_low : (region : ℕ) → 1 - region < 2
 other_low region = omega arith
 
--- two pages of a region differ
+-- two pages of a region have different places
 pub checkpoint_apart : (g : Geometry) (region i j : ℕ) → checkpoint_at g region i ≡ checkpoint_at g region j → i ≡ j
 checkpoint_apart g region i j e =
     let row : i / g.p ≡ j / g.p = add_left_cancel (region * k g) (ap (λ (x : Place). x.block) e) in

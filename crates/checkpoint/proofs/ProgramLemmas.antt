@@ -1,4 +1,4 @@
--- A page of a checkpoint, and what a program of it leaves.
+-- A page of a checkpoint, and the flash after a program of it.
 use Rattle.std.proofs.Common.{◌≡◌, ℕ, inl, inr, true, cond, List, Option, Some, None, option_map, refl, ◌∙◌, ap, subst, arith}
 use Rattle.std.proofs.lemmas.Bool.Decides.{nat_tests}
 use Rattle.ft_base.specs.declared.geometry.Geometry.{Geometry}
@@ -53,7 +53,7 @@ is_seal_page g totals era pages count block spare is spelled =
       spare = (block, ap (λ (bytes : List ℕ). Whole block (record { 0 = bytes })) spelled.spelled);
     }
 
--- a map page is one whose region isn't complete by it
+-- a map page doesn't make its region complete
 pub map_page_bare : (g : Geometry) (era sequence : ℕ) (changes : List Record) (page : Page) → IsMapPage g era sequence changes page → IsMapOrLost page
 map_page_bare g era sequence changes Blank is = tt
 map_page_bare g era sequence changes Torn is = tt

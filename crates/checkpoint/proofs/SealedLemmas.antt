@@ -97,7 +97,7 @@ pub all_whole-from : {A : Type 0} (page : Place → Page) (es : List (ℕ × Ent
 all_whole-from page [] x all = refl
 all_whole-from page (e ∷ es) x all = ap (λ b. cond b (all_whole page es x) (Err (Damaged e.1.place))) all.0 ∙ all_whole-from page es x all.1
 
--- entries that are found are loaded where each has a whole page
+-- entries that are found are loaded if each has a whole page
 pub load_from : (g : Geometry) (page : Place → Page) (m : Entries) → replayed_entries g page ≡ Ok m → ((a : ℕ) (e : Entry) → get m a ≡ Some e → is_whole (page e.place) ≡ true) → load g page ≡ Ok m
 unfolding load
 load_from g page m is whole = ap (λ r. r >>= λ m. all_whole page (entries m) m) is ∙ all_whole-from page (entries m) m (all_entries m (λ a e. is_whole (page e.place) ≡ true) whole)
@@ -108,7 +108,7 @@ current_map log page m current = after_all-map log.geometry log.buffered current
 pub current_low : (log : LogValue) (page : Place → Page) (m : Entries) → IsCurrent page log m → log.region < 2
 current_low log page m current = newest_below log.geometry page (log.region, current.newest) (newest_is log.geometry page (log.region, current.newest) current.chosen)
 
--- a sealed region is complete, and where it is the newest, flash stands for its map
+-- a sealed region is complete, and if it is the newest, the flash stands for its map
 module _ (g : Geometry) (region era : ℕ) (m : Entries) (records : List Record) (old new : Place → Page) (low : region < 2) (is_map : IsMap g m) (listed : IsListing g m records) (sealed : IsSealed g region era records (totals_of m) old new) where
   abbrev pages : ℕ
   pages = map_pages g records
@@ -163,7 +163,7 @@ module _ (g : Geometry) (region era : ℕ) (m : Entries) (records : List Record)
     pub sealed_loads : AreWhole old m → load g new ≡ Ok m
     sealed_loads whole = load_from g new m sealed_found (λ a e at. ap is_whole (pool_stays g region old new low sealed.beside e.place (is_map.in_pool a e at).above) ∙ whole.whole a e at)
 
--- and its log is empty
+-- the log of the sealed region is empty
 pub written_stands : (g : Geometry) (region era : ℕ) (m : Entries) (records : List Record) (old new : Flash) → region < 2 → IsMap g m → IsListing g m records → IsWritten g region era records (totals_of m) old new
     → newest g new.page ≡ Some (region, complete (own_stamp era) (map_pages g records) (sealed_as g (totals_of m))) → AreWhole old.page m
     → IsCommitted new (record { geometry = g; region = region; era = era; next = 0; buffered = [] }) m
@@ -202,7 +202,7 @@ sealed_newest log m records old new current listed sealed =
     (sealed_complete log.geometry (1 - log.region) ((log.era + 1) % 3) m records old new (other_low log.region) (current_map log old m current) listed sealed)
     (ap (λ n. (n + 1) % 3) (sym current.era))
 
--- ---- the first region, where the other one isn't complete
+-- ---- the first region, if the other one isn't complete
 
 pub formatted : (g : Geometry) (era : ℕ) (m : Entries) (records : List Record) (old new : Flash) → IsMap g m → IsListing g m records → IsWritten g 0 era records (totals_of m) old new → IsBare g 1 old.page
     → AreWhole old.page m → IsCommitted new (record { geometry = g; region = 0; era = era; next = 0; buffered = [] }) m
@@ -211,7 +211,7 @@ formatted g era m records old new is_map listed written bare whole = written_sta
     none : checkpoint_in (checkpoint_region g new.page 1) ≡ None
     none = ap checkpoint_in (checkpoint_stays g 1 old.page new.page (omega arith) written.sealed.beside) ∙ none_if_never_some (checkpoint_in (checkpoint_region g old.page 1)) (λ d is. bare_incomplete g 1 old.page d bare is)
 
--- ---- what a checkpoint leaves, whatever it answers
+-- ---- the flash after a checkpoint, whatever the checkpoint answers
 
 pub loads_one_of : (log : LogValue) (m : Entries) (records : List Record) (old new : Place → Page) → IsCurrent old log m → AreWhole old m → IsListing log.geometry m records
     → IsUnsealed log.geometry (1 - log.region) old new ⊎ IsSealed log.geometry (1 - log.region) ((log.era + 1) % 3) records (totals_of m) old new → LoadsOneOf log.geometry old new m

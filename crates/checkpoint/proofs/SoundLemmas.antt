@@ -1,4 +1,4 @@
--- The records of a checkpoint are those that a map page may have.
+-- A map page may have the records of a checkpoint.
 use Rattle.std.proofs.Common.{◌≡◌, ℕ, ◌+◌, ◌*◌, ◌/◌, ◌%◌, ◌<◌, ◌≤◌, ◌==◌, bit_and, true, List, [], ◌∷◌, map, Some, refl, ◌∙◌, ap, subst, arith, inl, inr, min, eqb-true, eq-eqb, lt-ltb}
 use Rattle.std.specs.Int.{bit_at}
 use Rattle.std.specs.List.{AllByRecursion, list_all, list_any}

@@ -1,4 +1,4 @@
--- While the new checkpoint has no seal, flash stands for what it stood for.
+-- While the new checkpoint has no seal, the flash stands for the same entries as before.
 use Rattle.std.proofs.Common.{◌≡◌, ℕ, zero, suc, ◌+◌, ◌-◌, ◌*◌, ◌<◌, ◌≤◌, Some, Ok, sym, arith, inl, inr, ◌⊎◌}
 use Rattle.std.specs.List.{AllByRecursion}
 use Rattle.ft_base.specs.declared.geometry.Geometry.{Geometry}
@@ -18,7 +18,7 @@ use Rattle.checkpoint.specs.Regions.{IsBlockWithin, AreLost, StaysBeside, IsBare
 use Rattle.checkpoint.proofs.PlacesLemmas.{checkpoint_within, log_within, checkpoint_alone, log_alone, checkpoint_no_log, pool_no_checkpoint, pool_no_log, other_low}
 use Rattle.checkpoint.proofs.ErasingLemmas.{lost_elsewhere}
 
--- ---- what lies beside the region
+-- ---- the pages beside the region
 
 pub checkpoint_stays : (g : Geometry) (region : ℕ) (old new : Place → Page) → region < 2 → StaysBeside g (1 - region) old new → checkpoint_region g new region ≡ checkpoint_region g old region
 checkpoint_stays g region old new low stays = pages_from-same new old (checkpoint_at g region) 0 (checkpoint_pages g) (λ i within.
@@ -78,7 +78,7 @@ unsealed_loads g old new c there unsealed =
       places = λ m is a e at. sym (pool_stays g (1 - c.0) old new (other_low c.0) stays e.place ((entries-map g old m is).in_pool a e at).above);
     })))
 
--- where the region is complete still, its log is as before
+-- if the region is still complete, its log is unchanged
 pub unsealed_log : (g : Geometry) (region : ℕ) (old new : Place → Page) → region < 2 → IsUnsealed g region old new → (d : Complete) → checkpoint_in (checkpoint_region g new region) ≡ Some d → log_region g new region ≡ log_region g old region
 unsealed_log g region old new low (inl lost) d is = pages_from-same new old (log_at g region) 0 (log_pages g) (λ i within.
     lost_elsewhere (region * k g) (k g) old new lost (log_at g region i) (λ there. checkpoint_no_log g region region _ low low there (log_within g region i (omega arith))))

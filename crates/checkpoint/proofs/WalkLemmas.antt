@@ -37,7 +37,7 @@ by_stamp None d i count page rest is = ap (option_and_then (λ e. sealed_from e 
 by_stamp (Some e) d i count page rest is = refl
 
 module _ (i count : ℕ) (rest : List Page) where
-  -- what a page makes of a walk of a stamp, by its header and its seal
+  -- the walk of a stamp after a page, by the page's header and its seal
   step_of : Stamp → Option Header → Option (Header × Seal × Option Totals) → Option Complete
   step_of e x s = option_or (option_map (complete e i) (option_map sealed (when (is_seal_of e i count) s))) (option_and_then (λ (h : Header). sealed_from e (i + 1) (count + h.count) rest) (when (is_page Map e i) x))
 
@@ -86,7 +86,7 @@ module _ (i count : ℕ) (rest : List Page) where
       unfolding step_of
       walk_no_seal head is f = seal_step head is ∙ ap (λ b. option_or (option_map (complete (named (unwrap_or o d)) i) (option_map sealed (cond b (Some (h, seal, totals)) None))) None) f
 
--- a page that was read, and what its bytes are
+-- a page that was read, and the meaning of its bytes
 pub whole_found : (page : Page) (block : Block) (spare : Spare) (f : Found) → ReadFound page read.Whole block spare → ((s : Spare) → IsFoundAs (Whole block s) f) → IsFoundAs page f
 whole_found Blank block spare f is finds = absurd (cc)
 whole_found Torn block spare f is finds = absurd (cc)
@@ -126,6 +126,6 @@ on_flash g region i low within = by_number (2 * k g + 2 * g.j) (checkpoint_below
     by_number : (n : ℕ) → (checkpoint_at g region i).block < n → (checkpoint_at g region i).block < n + g.c + g.l + 1
     by_number n below = omega arith
 
--- what was read of a page is what it was at first
+-- a page that was read is the page that was there at first
 pub found_at : (contents now : Contents) (at here : Place) (f : Found) → now ≡ contents → at ≡ here → IsFoundAs (now.flash.page at) f → IsFoundAs (contents.flash.page here) f
 found_at contents now at here f same place finds = subst (λ (q : Page). IsFoundAs q f) (ap₂ (λ (x : Contents) (p : Place). x.flash.page p) same place) finds

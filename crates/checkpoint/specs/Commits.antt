@@ -1,4 +1,4 @@
--- What a commit asks, and what it leaves.
+-- The preconditions of a commit, and the flash and the log after it.
 use Rattle.std.specs.Prelude.{◌≡◌, ◌+◌, ◌-◌, ◌%◌, List, Result, OnOk, OnErr}
 use Rattle.ft_base.specs.declared.geometry.Geometry.{Geometry}
 use Rattle.ft_base.specs.declared.record.Record.{Record}
@@ -13,7 +13,8 @@ use Rattle.checkpoint.specs.Counts.{checkpoint_counted}
 use Rattle.checkpoint.specs.Regions.{HasSpares, map_pages}
 use Rattle.checkpoint.specs.Current.{IsCurrent, AreWhole, PoolStays, PoolReadyStays, LoadsOneOf}
 
--- checkpoints, map and log are of one geometry, which fits the flash, and the map is what the flash stands for with what is buffered
+-- checkpoints, map and log are of one geometry, which fits the flash. With the buffered records the flash stands for
+-- the map
 pub record CanCheckpoint (marks : Geometry) (m : MapValue) (log : LogValue) (contents : Contents) : Type 0 where
   pub shape : FitsOn log.geometry contents.shape
   pub own : marks ≡ log.geometry
@@ -21,14 +22,14 @@ pub record CanCheckpoint (marks : Geometry) (m : MapValue) (log : LogValue) (con
   pub current : IsCurrent contents.flash.page log m.entries
   pub whole : AreWhole contents.flash.page m.entries
 
--- Ok, the log goes on as this one; refused, it is as before
+-- after `Ok` the log is `next`; after `Err` it is unchanged
 pub record LogGoesOn {T : Type 0} (next old new : LogValue) (result : Result T MediaError) : Type 0 where
   pub geometry : new.geometry ≡ old.geometry
   pub log : OnOk result (new ≡ next)
   pub refused : OnErr result (new ≡ old)
 
--- whatever is answered, the flash stands for the map, or for what it stood for, and no page of the pool changed;
--- Ok, nor did what is ready in it
+-- whatever the call answers, the flash stands for the map, or for the same entries as before, and no page of the pool
+-- changed. After `Ok` the readiness of the pool's blocks is unchanged too
 pub record LeavesPool {T : Type 0} (g : Geometry) (m : Entries) (old new : Flash) (result : Result T MediaError) : Type 0 where
   pub stands : LoadsOneOf g old.page new.page m
   pub pool : PoolStays g old.page new.page

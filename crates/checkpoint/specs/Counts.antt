@@ -5,11 +5,11 @@ use Rattle.ft_base.specs.Count.{last_count}
 use Rattle.ft_base.specs.Layout.{k}
 use Rattle.ft_media.specs.declared.rig.Counts.{Counts}
 
--- so many more, up to the last value
+-- a count and n more, up to the last value
 abbrev pub raised : ℕ → ℕ → ℕ
 raised n count = min (count + n) last_count
 
--- the counts after so many more erases, and after so many more programs
+-- the counts after n more erases, and after n more programs
 abbrev pub erases_counted : ℕ → Counts → Counts
 erases_counted n counts = record counts { erases = raised n counts.erases }
 

@@ -1,4 +1,4 @@
--- The regions of a checkpoint and of its log, and what is done to them.
+-- The regions of a checkpoint and of its log, and the changes that are made to them.
 use Rattle.std.specs.Prelude.{◌≡◌, ◌⊎◌, ◌≤◌, ◌<◌, ◌+◌, ◌*◌, ℕ, Some, List, length, take, drop}
 use Rattle.ft_base.specs.declared.geometry.Geometry.{Geometry}
 use Rattle.ft_base.specs.declared.block.Spare.{Spare}
@@ -26,7 +26,7 @@ use Rattle.op_log.specs.Stamps.{own_stamp}
 use Rattle.op_log.specs.Log.{FitsOn, HasSpare}
 use Rattle.op_log.specs.Refusals.{seal_of}
 
--- one of so many erase blocks from the first on
+-- one of `count` erase blocks from the first on
 abbrev pub IsBlockWithin : ℕ → ℕ → ℕ → Type 0
 IsBlockWithin first count b = (first ≤ b) × (b < first + count)
 
@@ -36,24 +36,24 @@ InCheckpoint g region b = IsBlockWithin (region * k g) (k g) b
 abbrev pub InLog : Geometry → ℕ → ℕ → Type 0
 InLog g region b = IsBlockWithin (first_log g + region * g.j) g.j b
 
--- each page is as before, or is one of these erase blocks and is blank or torn
+-- each page is unchanged, or lies in these erase blocks and is blank or torn
 abbrev pub AreLost : ℕ → ℕ → (Place → Page) → (Place → Page) → Type 0
 AreLost first count old new = (at : Place) → (new at ≡ old at) ⊎ (IsBlockWithin first count at.block × ((new at ≡ Blank) ⊎ (new at ≡ Torn)))
 
--- each page of these erase blocks is blank, and the first is the one to program next
+-- each page of these erase blocks is blank, and the first page of each is the one to program next
 pub record AreBlank (first count : ℕ) (flash : Flash) : Type 0 where
   pub page : (at : Place) → IsBlockWithin first count at.block → flash.page at ≡ Blank
   pub next : (b : ℕ) → IsBlockWithin first count b → flash.next b ≡ Some 0
 
--- what is ready elsewhere stays
+-- the readiness of other erase blocks is unchanged
 abbrev pub NextStays : ℕ → ℕ → Flash → Flash → Type 0
 NextStays first count old new = (b : ℕ) → ¬ IsBlockWithin first count b → new.next b ≡ old.next b
 
--- each page elsewhere than in the checkpoint region and its log is as before
+-- each page outside of the checkpoint region and its log is unchanged
 abbrev pub StaysBeside : Geometry → ℕ → (Place → Page) → (Place → Page) → Type 0
 StaysBeside g region old new = (at : Place) → ¬ InCheckpoint g region at.block → ¬ InLog g region at.block → new at ≡ old at
 
--- and so is what is ready elsewhere
+-- the readiness of erase blocks outside of both is unchanged
 abbrev pub ReadyBeside : Geometry → ℕ → Flash → Flash → Type 0
 ReadyBeside g region old new = (b : ℕ) → ¬ InCheckpoint g region b → ¬ InLog g region b → new.next b ≡ old.next b
 
@@ -68,8 +68,8 @@ pub record IsPrepared (g : Geometry) (region : ℕ) (old new : Flash) : Type 0 w
 pub record IsBare (g : Geometry) (region : ℕ) (page : Place → Page) : Type 0 where
   pub pages : (i : ℕ) → i < checkpoint_pages g → IsMapOrLost (page (checkpoint_at g region i))
 
--- a checkpoint that isn't sealed leaves this: pages of its region may be lost, and each other page is as before; or none of its region
--- is a seal, and each page elsewhere than in the region and its log is as before
+-- the flash after a checkpoint without a seal. Pages of its region may be lost, and each other page is unchanged. Or no
+-- page of its region is a seal, and each page outside of the region and its log is unchanged
 abbrev pub IsUnsealed : Geometry → ℕ → (Place → Page) → (Place → Page) → Type 0
 IsUnsealed g region old new = AreLost (region * k g) (k g) old new ⊎ (IsBare g region new × StaysBeside g region old new)
 
@@ -77,11 +77,11 @@ IsUnsealed g region old new = AreLost (region * k g) (k g) old new ⊎ (IsBare g
 unfoldable pub part : Geometry → List Record → ℕ → List Record
 part g records i = take (page_records g) (drop (page_records g * i) records)
 
--- the map pages of so many records
+-- the map pages of this many records
 abbrev pub map_pages : Geometry → List Record → ℕ
 map_pages g records = rounded_up (length records) (page_records g)
 
--- the header of a map page with these records, and of a seal over so many pages with so many
+-- the header of a map page with these records, and of a seal over this many map pages with this many records
 abbrev pub map_header : ℕ → ℕ → List Record → Header
 map_header era sequence changes = record { format = 2; kind = Map; era = era; sequence = sequence; count = length changes }
 
@@ -92,11 +92,11 @@ seal_header era pages count = record { format = 2; kind = SealPage; era = era; s
 abbrev pub totals_of : Entries → Totals
 totals_of m = record { entries = held_count m; dirty = dirty_count m }
 
--- what a seal of this geometry says, with these totals
+-- the contents of a seal of this geometry with these totals
 abbrev pub sealed_as : Geometry → Totals → Sealed
 sealed_as g totals = record { seal = seal_of g; totals = Some totals }
 
--- the spare bytes of a map page of this era and sequence, and of a seal over so many map pages
+-- the spare bytes of a map page of this era and sequence, and of a seal over this many map pages
 abbrev pub map_spare : ℕ → ℕ → Spare
 map_spare era sequence = record { 0 = spelled_spare (spare_fields MapSpare era sequence) }
 
@@ -111,7 +111,7 @@ pub record IsMapPage (g : Geometry) (era sequence : ℕ) (changes : List Record)
   pub records : said (read_records g.p header) page ≡ Some changes
   pub spare : HasSpare (map_spare era sequence) page
 
--- a whole page that seals so many map pages with so many records, and says these totals
+-- a whole page that seals this many map pages with this many records, and has these totals
 pub record IsSealPage (g : Geometry) (totals : Totals) (era pages count : ℕ) (page : Page) : Type 0 where
   pub seal : seal_at (own_stamp era) pages count page ≡ Some (sealed_as g totals)
   pub spare : HasSpare (seal_spare era pages) page
@@ -123,19 +123,19 @@ pub record CanProgram (g : Geometry) (m : MapValue) (contents : Contents) : Type
   pub is_map : IsMap g m.entries
   pub listing : IsCheckpointOf g m.entries m.records
 
--- a page of this kind was programmed, the page after it is next, and nothing else changed
+-- a page of this kind was programmed, the page behind it is next, and nothing else changed
 pub record Programmed (kind : Page → Type 0) (at : Place) (old new : Flash) : Type 0 where
   pub page : Page
   pub is_kind : kind page
   pub pages : new.page ≡ set_page old.page at page
   pub next : new.next ≡ set old.next at.block (Some (at.page + 1))
 
--- whatever is answered, the page is as before, torn or of this kind, and no other changed
+-- whatever the call answers, the page is unchanged, torn or of this kind, and no other page changed
 abbrev pub LeavesOne : (Page → Type 0) → Place → Flash → Flash → Type 0
 LeavesOne kind at old new = (new.page ≡ old.page) ⊎ (new.page ≡ set_page old.page at Torn)
     ⊎ ((page : Page) × kind page × (new.page ≡ set_page old.page at page))
 
--- the first n map pages stand in the region, and the pages after them are blank and ready; nothing else changed
+-- the first n map pages stand in the region, and the pages behind them are blank and ready; nothing else changed
 pub record MapsWritten (g : Geometry) (region era : ℕ) (records : List Record) (n : ℕ) (old new : Flash) : Type 0 where
   pub maps : (i : ℕ) → i < n → IsMapPage g era i (part g records i) (new.page (checkpoint_at g region i))
   pub blank : (i : ℕ) → n ≤ i → i < checkpoint_pages g → new.page (checkpoint_at g region i) ≡ Blank
@@ -144,7 +144,7 @@ pub record MapsWritten (g : Geometry) (region era : ℕ) (records : List Record)
   pub beside : (at : Place) → ¬ InCheckpoint g region at.block → new.page at ≡ old.page at
   pub next : (b : ℕ) → ¬ InCheckpoint g region b → new.next b ≡ old.next b
 
--- whatever is answered while map pages are programmed: none is a seal, and nothing else changed
+-- whatever the call answers while map pages are programmed, no page of the region is a seal, and nothing else changed
 pub record LeavesMaps (g : Geometry) (region : ℕ) (old new : Place → Page) : Type 0 where
   pub bare : IsBare g region new
   pub beside : (at : Place) → ¬ InCheckpoint g region at.block → new at ≡ old at
@@ -156,7 +156,7 @@ pub record IsSealed (g : Geometry) (region era : ℕ) (records : List Record) (t
   pub log : (at : Place) → InLog g region at.block → new at ≡ Blank
   pub beside : StaysBeside g region old new
 
--- and its log is ready
+-- the log of the checkpoint is ready
 pub record IsWritten (g : Geometry) (region era : ℕ) (records : List Record) (totals : Totals) (old new : Flash) : Type 0 where
   pub sealed : IsSealed g region era records totals old.page new.page
   pub log : AreBlank (first_log g + region * g.j) g.j new

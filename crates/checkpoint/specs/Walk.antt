@@ -12,13 +12,13 @@ use Rattle.checkpoint.specs.declared.walk.Walk.{Walk}
 use Rattle.checkpoint.specs.declared.walk.Step.{Step}
 use Rattle.checkpoint.specs.declared.walk.Step.TheVariants as step
 
--- what a page of a checkpoint region was found to be
+-- the kind of page that a page of a checkpoint region was found to be
 abbrev pub IsFoundAs : Page → Found → Type 0
 IsFoundAs page (is.Records header) = said read_page_header page ≡ Some header
 IsFoundAs page (is.Sealed header seal totals) = (said read_page_header page ≡ None) × (said read_seal page ≡ Some (header, seal, totals))
 IsFoundAs page is.Other = (said read_page_header page ≡ None) × (said read_seal page ≡ None)
 
--- a page of records says no more of them than a page may have
+-- a page of records counts at most as many records as a page may have
 abbrev pub IsFew : Found → Type 0
 IsFew (is.Records header) = header.count ≤ most_page_records
 IsFew (is.Sealed header seal totals) = Unit {0}
@@ -30,7 +30,7 @@ sealed_by (Some stamp) i count pages = sealed_from (named stamp) i count pages
 sealed_by None i count [] = None
 sealed_by None i count (page ∷ pages) = option_and_then (λ stamp. sealed_from stamp i count (page ∷ pages)) (stamp_in page)
 
--- what a page makes of a walk that stands at it
+-- the walk after a page, from a walk that stands at the page
 abbrev pub StepsOn : Walk → ℕ → Page → Step → Type 0
 StepsOn walk i page (step.On next) = (next.records ≤ walk.records + most_page_records)
     × ((rest : List Page) → sealed_by walk.stamp i walk.records (page ∷ rest) ≡ sealed_by next.stamp (i + 1) next.records rest)

@@ -1,5 +1,5 @@
-//! The records of a checkpoint, which are asked of the map for several pages at once, since each question walks over the
-//! groups of the map.
+//! The records of a checkpoint. They are asked of the map for several pages at once, because each question walks over
+//! the groups of the map.
 ghost use Rattle.std.specs.Prelude.{◌≡◌, ◌<◌, ◌≤◌, ◌+◌, ◌*◌, ◌%◌, ◌^◌, length};
 ghost use Rattle.ft_base.specs.Layout.{page_records};
 ghost use Rattle.checkpoint.specs.Asked.{HasRun, IsAskedFor, asked_pages, asked_records};
@@ -19,7 +19,7 @@ fn first_of(geometry: &Geometry, sequence: u32) -> u32
     geometry.q() * sequence
 }
 
-/// Where the records of a page begin among those that were asked for.
+/// The place at which the records of a page begin in the list that was asked for.
 fn place_of(geometry: &Geometry, sequence: u32) -> u32
     ensures place { result ≡ page_records geometry.now * (sequence % asked_pages) }
     ensures within { result + page_records geometry.now ≤ asked_records geometry.now }
@@ -27,7 +27,7 @@ fn place_of(geometry: &Geometry, sequence: u32) -> u32
     geometry.q() * (sequence % PAGES)
 }
 
-/// Asks the map for the records of a page, and of those that follow it, unless they came with an earlier page.
+/// Asks the map for the records of a page and of the pages that follow, unless they came with an earlier page.
 pub(crate) fn ask(geometry: &Geometry, map: &Map, asked: &mut [Record], sequence: u32)
     requires room { length asked.old ≡ asked_records geometry.now }
     requires few { length map.now.records < 2 ^ 32 }
@@ -41,7 +41,7 @@ pub(crate) fn ask(geometry: &Geometry, map: &Map, asked: &mut [Record], sequence
     }
 }
 
-/// The records of a page among those that were asked for.
+/// The records of a page in the list that was asked for.
 pub(crate) fn records_of<'a>(
     geometry: &Geometry,
     map: &Map,

@@ -14,7 +14,7 @@ use op_log::OpLog;
 use std::alloc::{AllocError, Global};
 use std::marker::Model;
 
-/// Makes checkpoints, in a page and a list of records of its own.
+/// Makes checkpoints, with a page and a list of records of its own.
 #[derive(Drop)]
 pub struct Checkpoints {
     geometry: Geometry,
@@ -36,7 +36,7 @@ impl Model for Checkpoints {
 }
 
 impl Checkpoints {
-    /// Takes the page that checkpoints are written in, and the list for their records.
+    /// Allocates the page in which checkpoints are written, and the list for their records.
     pub fn new(alloc: Global, geometry: &Geometry) -> Result<Checkpoints, AllocError>
         ensures { IfOk result (λ c. c ≡ geometry.now) }
     {
@@ -45,7 +45,8 @@ impl Checkpoints {
         };
         let room = (PAGES * geometry.q()) as usize;
         let asked = vec![in alloc; Record::Remove { lba: 0 }; room]?;
-        // What `vec!` makes has no more memory, but it doesn't promise that: a longer list passes for none.
+        // The list that `vec!` makes has no more memory, but `vec!` doesn't promise that. So a longer list counts as
+        // out of memory.
         if asked.capacity() > asked.len() {
             return Err(AllocError);
         }
@@ -56,8 +57,8 @@ impl Checkpoints {
         })
     }
 
-    /// Puts all that is buffered on the flash: with one log page, or with a checkpoint where the log has
-    /// no page left. Where nothing is buffered, it does nothing. It takes no memory.
+    /// Puts all buffered changes on the flash: with one log page, or with a checkpoint if the log has no page left. If
+    /// nothing is buffered, it does nothing. It allocates nothing.
     pub fn commit<M: Media>(
         &mut self,
         media: &mut M,
@@ -88,8 +89,8 @@ impl Checkpoints {
         self.checkpoint(media, map, log)
     }
 
-    /// Erases the other checkpoint region and its log, programs the map with what is buffered, and seals
-    /// it. It takes no memory.
+    /// Erases the other checkpoint region and its log, programs the map with the buffered changes, and seals it. It
+    /// allocates nothing.
     pub fn checkpoint<M: Media>(
         &mut self,
         media: &mut M,

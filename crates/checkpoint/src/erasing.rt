@@ -9,7 +9,7 @@ ghost use Rattle.checkpoint.specs.Regions.{AreLost, AreBlank, NextStays, IsPrepa
 use ft_base::Geometry;
 use ft_media::{Media, MediaError};
 
-/// Erases so many erase blocks from the first on, in order.
+/// Erases `count` erase blocks from the first on, in order.
 pub(crate) fn erase_blocks<M: Media>(
     media: &mut M,
     first: u32,
@@ -47,7 +47,7 @@ pub(crate) fn erase_regions<M: Media>(
     ensures drives { DrivesFlash (M.state media.old) (M.state media.new) (failed result) (lost result) }
 {
     let k = geometry.k();
-    // The region first: else it could be complete with its log gone.
+    // The region is erased first. Else it could be complete while its log is gone.
     erase_blocks(media, region * k, k)?;
     erase_blocks(media, 2 * k + region * geometry.j, geometry.j)?;
     Ok(())

@@ -14,9 +14,8 @@ use cache_model::Totals;
 use ft_base::{Geometry, zero_block};
 use ft_media::{Media, MediaError};
 
-/// Makes the flash that of an empty map: both checkpoint regions and the first log region are erased,
-/// and an empty checkpoint of era 0 is sealed in the first. The log can go on at its first page. It takes
-/// no memory.
+/// Formats the flash for an empty map. It erases both checkpoint regions and the first log region, and seals an empty
+/// checkpoint of era 0 in the first region. The log can continue at its first page. It allocates nothing.
 pub fn format<M: Media>(media: &mut M, geometry: &Geometry) -> Result<(), MediaError>
     requires shape { FitsOn geometry.now (M.state media.old).contents.shape }
     ensures done { OnOk result (load geometry.now (M.state media.new).contents.flash.page ≡ Ok no_entries) }

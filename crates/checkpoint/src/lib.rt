@@ -1,12 +1,12 @@
-//! Checkpoints: the whole map in one of two regions, which a seal makes count.
+//! Checkpoints: the whole map in one of two regions. A checkpoint counts once it has its seal.
 //!
-//! What is written has format 2; `newest` finds a checkpoint of either format.
+//! Checkpoints are written in format 2; `newest` finds a checkpoint of either format.
 //!
-//! The layers above rely on this: `commit` is never refused for room, since a log without a page left
-//! gives way to a checkpoint. After Ok of `commit` or `checkpoint` the flash stands for the map; whatever
-//! either answers, and wherever power went off in it, the flash stands for the map or for what it stood
-//! for before, and no page of the pool changes. `newest` finds the checkpoint that counts, and `format`
-//! makes an empty one. The laws of loading are those of `cache_model::laws`.
+//! The layers above rely on this: `commit` never fails for room, since a log without a page left gives way to a
+//! checkpoint. After `Ok` of `commit` or `checkpoint` the flash stands for the map. Whatever either answers, and
+//! whenever power goes off in it, the flash stands for the map or for the same entries as before. No page of the pool
+//! changes. `newest` finds the checkpoint that counts, and `format` makes an empty one. The laws of loading are in
+//! `cache_model::laws`.
 #![tactic(auto)]
 
 mod asking;

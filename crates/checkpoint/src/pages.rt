@@ -27,7 +27,7 @@ pub(crate) fn write_map(out: &mut Block, p: u32, records: &[Record], era: u8, se
     write_page(out, &header, p, records);
 }
 
-/// Writes the seal over so many map pages with so many records, with the totals of their entries.
+/// Writes the seal over this many map pages with this many records, with the totals of their entries.
 pub(crate) fn write_numbers(
     out: &mut Block,
     geometry: &Geometry,

@@ -17,13 +17,13 @@ use record_codec::{read_page_header, read_seal};
 pub(crate) enum Found {
     /// A page of records.
     Records(Header),
-    /// A seal, with its totals where it has any.
+    /// A seal, with its totals if it has any.
     Sealed(Header, Seal, Option<Totals>),
-    /// Neither.
+    /// Any other page.
     Other,
 }
 
-/// What a whole page is.
+/// The kind of a whole page.
 fn kind_of(block: &Block) -> Found
     ensures finds { (spare : SpareValue) → IsFoundAs (Whole block.now spare) result }
     ensures few { IsFew result }

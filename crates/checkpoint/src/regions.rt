@@ -10,7 +10,7 @@ use crate::walk::{Newest, Step, Walk, after_page};
 use ft_base::Geometry;
 use ft_media::{Media, MediaError};
 
-/// The checkpoint of a region, where it is complete.
+/// The checkpoint of a region, if it is complete.
 fn complete_in<M: Media>(
     media: &mut M,
     geometry: &Geometry,
@@ -69,7 +69,7 @@ fn later(first: Option<Newest>, second: Option<Newest>) -> Option<Newest>
     }
 }
 
-/// The checkpoint that counts: none exactly where no region is complete. It takes no memory.
+/// The checkpoint that counts. `None` if no region is complete, and only then. It allocates nothing.
 pub fn newest<M: Media>(media: &mut M, geometry: &Geometry) -> Result<Option<Newest>, MediaError>
     requires shape { FitsOn geometry.now (M.state media.old).contents.shape }
     ensures found { IfOk result (λ n. found n ≡ newest geometry.now (M.state media.old).contents.flash.page) }

@@ -16,44 +16,44 @@ use op_log::Stamp;
 /// The checkpoint that counts.
 #[derive(Clone, Copy, Debug, PartialEq, Eq)]
 pub struct Newest {
-    /// The region that it lies in, 0 or 1.
+    /// The region of the checkpoint, 0 or 1.
     pub region: u32,
     /// Its era, 0 to 2, which its log has too.
     pub era: u8,
-    /// Its map pages.
+    /// How many map pages it has.
     pub pages: u32,
-    /// The numbers that it was made for.
+    /// The numbers for which it was made.
     pub seal: Seal,
-    /// How its pages are spelled, 1 or 2, as those of its log are.
+    /// The format in which its pages are spelled, and its log's pages too: 1 or 2.
     pub format: u8,
-    /// How many entries its map pages have, where its format says it.
+    /// How many entries its map pages have, if its format says it.
     pub totals: Option<Totals>,
 }
 
-/// What a walk along a checkpoint region has found so far: so many records, and the stamp of the first
-/// page, which isn't known before it.
+/// The findings of a walk along a checkpoint region so far: how many records, and the stamp of the first page, which
+/// isn't known before that page.
 #[derive(Clone, Copy, Debug, PartialEq, Eq)]
 pub(crate) struct Walk {
     pub(crate) stamp: Option<Stamp>,
     pub(crate) records: u32,
 }
 
-/// What the next page makes of a walk.
+/// The walk after its next page.
 #[derive(Clone, Copy, Debug, PartialEq, Eq)]
 pub(crate) enum Step {
-    /// It is a map page, and the walk goes on.
+    /// The page is a map page, and the walk goes on.
     On(Walk),
-    /// It is the seal.
+    /// The page is the seal.
     Complete {
         stamp: Stamp,
         seal: Seal,
         totals: Option<Totals>,
     },
-    /// It is neither.
+    /// The page is neither.
     Ends,
 }
 
-/// What page `sequence` of a region makes of a walk that stands at it.
+/// The walk after page `sequence` of a region, from a walk that stands at it.
 pub(crate) fn after_page(walk: Walk, sequence: u32, found: Found) -> Step
     requires records { walk.records ≤ most_page_records * 2 ^ 16 }
     requires few { IsFew found }
@@ -68,7 +68,7 @@ pub(crate) fn after_page(walk: Walk, sequence: u32, found: Found) -> Step
     }
 }
 
-/// What a page of records makes of it.
+/// The walk after a page of records.
 fn after_records(walk: Walk, sequence: u32, header: &Header) -> Step
     requires records { walk.records ≤ most_page_records * 2 ^ 16 }
     requires few { header.now.count ≤ most_page_records }
@@ -84,14 +84,14 @@ fn after_records(walk: Walk, sequence: u32, header: &Header) -> Step
     })
 }
 
-/// Whether the header is that of a map page of this stamp, at its own place.
+/// Whether the header is the header of a map page of this stamp, at its own place.
 fn is_map_page(header: &Header, stamp: Stamp, sequence: u32) -> bool
     ensures { result ≡ is_page map_page (named stamp) sequence header.now }
 {
     header.kind == PageKind::Map && stamp.is_of(header) && header.sequence == sequence
 }
 
-/// What a seal makes of it.
+/// The walk after a seal.
 fn after_seal(
     walk: Walk,
     sequence: u32,
@@ -113,7 +113,7 @@ fn after_seal(
     }
 }
 
-/// Whether a seal ends so many map pages of this stamp, with so many records.
+/// Whether a seal ends this many map pages of this stamp, with this many records.
 fn ends(header: &Header, stamp: Stamp, pages: u32, records: u32) -> bool
     ensures { (seal : SealValue) (totals : Option TotalsValue) → result ≡ is_seal_of (named stamp) pages records (header.now, seal, totals) }
 {

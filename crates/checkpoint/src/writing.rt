@@ -22,7 +22,7 @@ use ft_media::{Media, MediaError};
 use mapping::Map;
 use page_oob::write_spare;
 
-/// Where a checkpoint goes, and its era.
+/// The region to which a checkpoint goes, and its era.
 #[derive(Clone, Copy, Debug, PartialEq, Eq)]
 pub(crate) struct Target {
     /// The region, 0 or 1.
@@ -64,7 +64,7 @@ fn program_map<M: Media>(
     Ok(())
 }
 
-/// Programs so many map pages of a checkpoint, in order.
+/// Programs `pages` map pages of a checkpoint, in order.
 fn program_maps<M: Media>(
     media: &mut M,
     page: &mut Block,
@@ -95,8 +95,7 @@ fn program_maps<M: Media>(
     Ok(())
 }
 
-/// Programs the seal of a checkpoint, over so many map pages with so many records, with the totals of their
-/// entries.
+/// Programs the seal of a checkpoint, over `pages` map pages with `records` records, with the totals of their entries.
 pub(crate) fn program_seal<M: Media>(
     media: &mut M,
     page: &mut Block,
@@ -124,7 +123,7 @@ pub(crate) fn program_seal<M: Media>(
     Ok(())
 }
 
-/// The map pages of so many records.
+/// How many map pages this many records take.
 fn page_count(geometry: &Geometry, records: u32) -> u32
     requires { records < 2 ^ 31 }
     ensures { result ≡ rounded_up records (page_records geometry.now) }
@@ -174,7 +173,7 @@ pub(crate) fn write_checkpoint<M: Media>(
     let totals = totals_of(map);
     erase_regions(media, geometry, target.region)?;
     program_maps(media, page, asked, geometry, map, target, pages)?;
-    // The seal last: until it is whole the old checkpoint counts.
+    // The seal comes last: until it is whole, the old checkpoint counts.
     program_seal(media, page, geometry, target, pages, records, &totals)?;
     Ok(())
 }

@@ -8,7 +8,7 @@ use Rattle.device_calls.specs.declared.ending.Current.TheVariants as current
 use Rattle.device_calls.specs.declared.ending.Ending.{Ending}
 use Rattle.device_calls.specs.declared.ending.Ending.TheVariants as ending
 
--- how many calls were made, how many of them were faults, and the numbers of those that fail
+-- how many calls were made, how many of them were faults, and the numbers of the calls that fail
 abbrev pub calls_made : Calls → ℕ
 calls_made calls = calls.made
 
@@ -22,16 +22,16 @@ failing_numbers calls = calls.failing.items
 abbrev pub next_number : Calls → ℕ
 next_number calls = bumped calls.made
 
--- that number is listed: the call fails, unless power stops it
+-- the next number is listed: the call fails, unless power stops it
 abbrev pub is_listed : Calls → Bool
 is_listed calls = list_any (λ n. n == next_number calls) (failing_numbers calls)
 
--- a device write is counted, but for one that finds power off
+-- each device write is counted, except one that finds power off
 abbrev pub made_after : Ending → ℕ → ℕ
 made_after ending.Off made = made
 made_after other made = bumped made
 
--- how a device write ends, where its number is listed and where it isn't
+-- how a device write ends, if its number is listed and if it isn't
 abbrev pub ending_of : Current → Bool → Ending
 ending_of current.Off listed = ending.Off
 ending_of (current.Stops outcome) listed = ending.Cut outcome
@@ -48,13 +48,13 @@ abbrev pub bumped_if_done : Ending → ℕ → ℕ
 bumped_if_done ending.Done count = bumped count
 bumped_if_done ending count = count
 
--- what a device write that ended so leaves of the count of calls
+-- a device write with this ending changes the count of calls like this
 pub record CountsWrite (ending : Ending) (old new : Calls) : Type 0 where
   pub made : calls_made new ≡ made_after ending (calls_made old)
   pub faults : fault_count new ≡ faults_after ending (fault_count old)
   pub failing : failing_numbers new ≡ failing_numbers old
 
--- what a read leaves of it, where it failed and where it didn't
+-- a read changes the count of calls like this, if it failed and if it didn't
 pub record CountsRead (fails : Bool) (old new : Calls) : Type 0 where
   pub made : calls_made new ≡ bumped (calls_made old)
   pub faults : fault_count new ≡ (if fails then bumped (fault_count old) else fault_count old)

@@ -4,8 +4,8 @@ ghost use Rattle.ft_base.specs.Count.{last_count};
 use crate::{Current, Ending};
 use ft_base::bump;
 
-/// Counts the calls of a device, and its faults. The calls with the listed numbers fail, from 1 and
-/// counted since it was made.
+/// Counts the calls of a device, and its faults. The calls with the listed numbers fail. The numbers start at 1, and
+/// count since the device was made.
 #[derive(Drop)]
 pub struct Calls {
     failing: Vec<u64>,
@@ -18,7 +18,7 @@ pub struct Calls {
 impl Calls {
     ghost use Rattle.device_calls.specs.Calls.{calls_made, fault_count, failing_numbers, is_listed, ending_of, CountsRead, CountsWrite};
 
-    /// No call was made yet. Those with these numbers will fail.
+    /// No call was made yet. The calls with these numbers will fail.
     pub fn new(failing: Vec<u64>) -> Calls
         ensures failing { failing_numbers result ≡ failing.items }
         ensures made { calls_made result ≡ 0 }
@@ -60,7 +60,7 @@ impl Calls {
         }
     }
 
-    /// Counts a device write that ended so.
+    /// Counts a device write with this ending.
     pub fn count_write(&mut self, ending: Ending)
         ensures { CountsWrite ending self.old self.new }
     {

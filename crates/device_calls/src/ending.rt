@@ -3,22 +3,22 @@ use ft_base::Outcome;
 /// The power of a device during one call.
 #[derive(Clone, Copy, Debug, PartialEq, Eq)]
 pub enum Current {
-    /// It is on, and stays on.
+    /// Power is on, and stays on.
     On,
-    /// It goes off in this call, which must be a device write, and leaves this.
+    /// Power goes off in this call, which must be a device write, and leaves this outcome.
     Stops(Outcome),
-    /// It is off.
+    /// Power is off.
     Off,
 }
 
 /// How a device write ended.
 #[derive(Clone, Copy, Debug, PartialEq, Eq)]
 pub enum Ending {
-    /// It was done.
+    /// The write was done.
     Done,
     /// The device failed.
     Failed,
-    /// Power went off in it, and left this.
+    /// Power went off in the write, and left this outcome.
     Cut(Outcome),
     /// Power was off, and nothing was done.
     Off,

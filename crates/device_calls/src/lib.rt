@@ -1,8 +1,7 @@
-//! The numbered calls of a device in memory: which of them fail, and how a device write ends under the
-//! power that it is given.
+//! The numbered calls of a device in memory: which of them fail, and how a device write ends, given the power.
 //!
-//! The layers above rely on `ending_of`: power that is off or goes off in a device write comes before a
-//! failure, and else a call fails exactly where its number is listed. Calls made with power off have no number.
+//! The layers above rely on `ending_of`. If power is off or goes off in a device write, that comes before a failure.
+//! Else a call fails if its number is listed, and only then. Calls made with power off have no number.
 #![tactic(auto)]
 
 mod calls;

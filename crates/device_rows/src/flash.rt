@@ -4,7 +4,7 @@ use ft_media::{MediaError, PageRead};
 use nand_model::{MemNand, page_of_cut_erase, page_of_cut_program};
 use std::test::Fail;
 
-/// What a page is, without its bytes.
+/// The kind of a page, without its bytes.
 fn kind(page: &Page) -> PageRead {
     match page {
         Page::Blank => PageRead::Blank,
@@ -13,7 +13,7 @@ fn kind(page: &Page) -> PageRead {
     }
 }
 
-/// Programs the next page of block 0, where there is one.
+/// Programs the next page of block 0, if there is one.
 fn program(nand: &mut MemNand, block: &Block, current: Current) -> Option<Ending> {
     if nand.blocks() == 0 {
         return None;
@@ -33,7 +33,7 @@ fn erase(nand: &mut MemNand, current: Current) -> Option<Ending> {
     Some(nand.erase(0, current))
 }
 
-/// Reads a page of block 0, and gives the first of its bytes too.
+/// Reads a page of block 0, and gives its kind and the first of its bytes.
 fn read(nand: &mut MemNand, page: u32) -> Result<(PageRead, u8), MediaError> {
     if nand.blocks() == 0 || page >= nand.pages() {
         return Err(MediaError::OutOfMemory);

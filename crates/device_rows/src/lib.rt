@@ -1,7 +1,8 @@
-//! Worked examples of what stands outside of the cache: streams, patterns and the layout of a flash; what flash and disk
-//! contain and what a crash may leave; and flash, disk and power in memory, each call, and many calls beside plain lists.
+//! Worked examples of the crates outside of the cache: streams, patterns and the layout of a flash, and what flash and
+//! disk contain and what a crash may leave. Also flash, disk and power in memory: each call, and many calls beside
+//! plain lists.
 //!
-//! No layer stands on this crate; it has tests alone.
+//! No layer uses this crate; it has only tests.
 #![tactic(auto)]
 
 #[cfg(test)]

@@ -1,5 +1,5 @@
-//! Flash, disk and power as their definitions have them: plain lists, searched and copied whole. A block
-//! is told by its tag, and 0 is the zero block.
+//! Flash, disk and power as their definitions have them: plain lists, searched and copied whole. A block is known by
+//! its tag, and 0 is the zero block.
 use device_calls::Ending;
 use ft_base::{Outcome, Stop};
 use ft_media::{Counts, MediaError};
@@ -126,7 +126,7 @@ impl Plain {
         Ok(plain)
     }
 
-    /// Begins a device write, of the flash or of the disk.
+    /// Begins a device write of the flash or of the disk.
     fn begin(&mut self, of_flash: bool) -> Ending {
         if !self.on {
             raise(&mut self.cuts);
@@ -170,7 +170,7 @@ impl Plain {
         Ending::Failed
     }
 
-    /// What a crash leaves: no block is ready, and each disk block has one value.
+    /// Makes a crash: no block is ready, and each disk block has one value.
     fn crash(&mut self, outcome: Outcome) {
         for next in self.next.iter_mut() {
             *next = None;

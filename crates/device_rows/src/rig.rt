@@ -18,10 +18,10 @@ const OUTCOMES: [Outcome; 4] = [
     Outcome::Mixed,
 ];
 
-/// What a rig tells without a call.
+/// A fact of a rig that can be seen without a call.
 #[derive(Clone, Copy)]
 enum Fact {
-    /// The page of a block to program next, where it is ready and has one.
+    /// The page of a block to program next, if the block is ready and has one.
     NextPage(u32, Option<u32>),
     /// Whether power is on.
     Power(bool),
@@ -29,20 +29,20 @@ enum Fact {
     Stops(u32),
     /// How often power was lost, or was off at a call.
     Cuts(u64),
-    /// How often the flash failed, and the disk.
+    /// How often the flash failed, and how often the disk failed.
     Failures(u64, u64),
-    /// The counts of calls that answered Ok.
+    /// The counts of calls that answered `Ok`.
     Done(Counts),
 }
 
 /// A line of an example. A call comes with its answer.
 #[derive(Clone, Copy)]
 enum Line {
-    /// A stop is armed, which cuts the device write of this number, and leaves this of it.
+    /// A stop is armed. It cuts the device write of this number, and leaves this outcome of it.
     Arm(u64, Outcome),
-    /// The next page of a block is programmed with this tag. None where none is ready.
+    /// The next page of a block is programmed with this tag. `None` if no page is ready.
     Program(u32, u64, Option<Ending>),
-    /// Three pages of a block are programmed, with the tags 1 to 3, however that ends.
+    /// Three pages of a block are programmed, with the tags 1 to 3, whatever the calls answer.
     Fill(u32),
     /// A block is erased.
     Erase(u32, Option<Ending>),
@@ -56,9 +56,9 @@ enum Line {
     TurnOn,
     /// A page is read.
     ReadPage(u32, u32, Result<Kept, MediaError>),
-    /// A block of the disk is read, which has this tag.
+    /// A block of the disk is read, and has this tag.
     ReadBlock(u64, Result<u64, MediaError>),
-    /// What is told then.
+    /// The fact that is seen then.
     See(Fact),
 }
 
@@ -71,7 +71,7 @@ fn tagged(number: u64) -> Block {
     block
 }
 
-/// What a read of a page finds, with the tag of its block where it is whole.
+/// The finding of a read of a page, with the tag of its block if it is whole.
 fn read_page<R: Rig>(rig: &mut R, block: u32, page: u32) -> Result<Kept, MediaError> {
     if block >= rig.blocks() || page >= rig.pages() {
         return Ok(Kept::Blank);
@@ -99,7 +99,7 @@ fn read_block<R: Rig>(rig: &mut R, lba: u64) -> Result<u64, MediaError> {
     Ok(if whole { tag(&bytes) } else { u64::MAX })
 }
 
-/// The page of a block to program next, where it is ready and has one.
+/// The page of a block to program next, if the block is ready and has one.
 fn next_page(rig: &MemRig, block: u32) -> Option<u32> {
     if block >= rig.flash_blocks() {
         return None;
@@ -108,7 +108,7 @@ fn next_page(rig: &MemRig, block: u32) -> Option<u32> {
         .filter(|page| *page < rig.flash_pages())
 }
 
-/// Programs the next page of a block, where it is ready and has one.
+/// Programs the next page of a block, if the block is ready and has one.
 fn program(rig: &mut MemRig, block: u32, number: u64) -> Option<Ending> {
     if block >= rig.flash_blocks() {
         return None;
@@ -160,7 +160,7 @@ fn tells(rig: &MemRig, fact: Fact) -> bool {
     }
 }
 
-/// Makes the call of the line. Whether what the line tells is so.
+/// Makes the call of the line. Answers whether the facts of the line hold.
 fn is_so(rig: &mut MemRig, line: Line) -> Result<bool, AllocError> {
     match line {
         Line::Arm(after, outcome) => return Ok(arm(rig, after, outcome)),
@@ -180,7 +180,7 @@ fn is_so(rig: &mut MemRig, line: Line) -> Result<bool, AllocError> {
     Ok(true)
 }
 
-/// Goes through the lines. Says which is the first that tells what isn't so.
+/// Goes through the lines. Answers the first line whose facts don't hold.
 fn first_wrong(rig: &mut MemRig, lines: &[Line]) -> Result<Option<usize>, AllocError> {
     for i in 0..lines.len() {
         if !is_so(rig, lines[i])? {
@@ -190,24 +190,24 @@ fn first_wrong(rig: &mut MemRig, lines: &[Line]) -> Result<Option<usize>, AllocE
     Ok(None)
 }
 
-/// The same from a new rig on.
+/// The same, beginning with a new rig.
 fn first_wrong_anew(alloc: Global, lines: &[Line]) -> Result<Option<usize>, AllocError> {
     let mut rig = small_rig(alloc)?;
     first_wrong(&mut rig, lines)
 }
 
-/// What a cut of this outcome leaves.
+/// The pages and blocks that a cut of this outcome leaves.
 #[derive(Clone, Copy)]
 struct Row {
     outcome: Outcome,
     /// The page that is programmed.
     programmed: Kept,
-    /// Pages 0 to 3 of a block that is erased, of which the first three were whole.
+    /// Pages 0 to 3 of a block that is erased; the first three were whole.
     erased: [Kept; 4],
-    /// Page 2 of a block that is erased, where that page was torn.
+    /// Page 2 of a block that is erased, if that page was torn.
     was_torn: Kept,
-    /// The tags at addresses 4 to 7: 4 and 5 were flushed with tag 1, and then all four were written with tags
-    /// 3 and 2.
+    /// The tags at addresses 4 to 7. Addresses 4 and 5 were flushed with tag 1, and then all four were written with
+    /// tags 3 and 2.
     blocks: [u64; 4],
 }
 
@@ -242,7 +242,7 @@ const ROWS: [Row; 4] = [
     },
 ];
 
-/// What is cut.
+/// The device write that is cut.
 #[derive(Clone, Copy, Debug, PartialEq, Eq)]
 enum Cut {
     /// A program.
@@ -251,13 +251,13 @@ enum Cut {
     Erase,
     /// An erase of a block with a torn page.
     EraseOfTorn,
-    /// Whatever leaves blocks of the disk unflushed.
+    /// A device write, or a cut between two, that leaves blocks of the disk unflushed.
     Unflushed(Unflushed),
     /// A write of the disk, to the first or the second address.
     Write(bool),
 }
 
-/// The device write, or the cut between two, that a disk is settled by.
+/// The device write, or the cut between two, that settles a disk.
 #[derive(Clone, Copy, Debug, PartialEq, Eq)]
 enum Unflushed {
     /// A program.
@@ -266,7 +266,7 @@ enum Unflushed {
     Erase,
     /// The flush.
     Flush,
-    /// Nothing: power goes off between two.
+    /// No device write: power goes off between two.
     Between,
 }
 
@@ -282,7 +282,7 @@ const CUTS: [Cut; 9] = [
     Cut::Write(true),
 ];
 
-/// What a cut leaves of the page that is programmed.
+/// A cut of a program, and the page that it leaves.
 fn program_cut(row: &Row) -> [Line; 9] {
     [
         Line::Arm(1, row.outcome),
@@ -297,7 +297,7 @@ fn program_cut(row: &Row) -> [Line; 9] {
     ]
 }
 
-/// What a cut leaves of pages 0 to 3 of a block that is erased, of which the first three were whole.
+/// A cut of an erase, and pages 0 to 3 of the block; the first three were whole.
 fn erase_cut(row: &Row) -> [Line; 12] {
     [
         Line::Fill(0),
@@ -316,7 +316,7 @@ fn erase_cut(row: &Row) -> [Line; 12] {
     ]
 }
 
-/// What a cut leaves of page 2 of a block that is erased, where that page was torn.
+/// A cut of an erase, and page 2 of the block, which was torn.
 fn erase_of_torn_cut(row: &Row) -> [Line; 8] {
     [
         Line::Arm(3, Outcome::Torn),
@@ -340,8 +340,8 @@ fn cut_by(cut: Unflushed, outcome: Outcome) -> Line {
     }
 }
 
-/// What a cut leaves at addresses 4 to 7: 4 and 5 were flushed with tag 1, and then all four were written with
-/// tags 3 and 2.
+/// A cut, and the blocks that it leaves at addresses 4 to 7. Addresses 4 and 5 were flushed with tag 1, and then all
+/// four were written with tags 3 and 2.
 fn unflushed_cut(cut: Unflushed, row: &Row) -> [Line; 19] {
     [
         Line::Write(4, 1, Ending::Done),
@@ -366,7 +366,7 @@ fn unflushed_cut(cut: Unflushed, row: &Row) -> [Line; 19] {
     ]
 }
 
-/// What a cut leaves at an address, flushed with tag 1, of a write of tag 2 there.
+/// A cut of a write of tag 2 to an address that was flushed with tag 1, and the block that it leaves there.
 fn write_cut(lba: u64, left: u64, outcome: Outcome) -> [Line; 6] {
     [
         Line::Write(lba, 1, Ending::Done),
@@ -378,7 +378,7 @@ fn write_cut(lba: u64, left: u64, outcome: Outcome) -> [Line; 6] {
     ]
 }
 
-/// The first line of a cut that tells what isn't so.
+/// The first line of a cut whose facts don't hold.
 fn first_wrong_of(alloc: Global, cut: Cut, row: &Row) -> Result<Option<usize>, AllocError> {
     match cut {
         Cut::Program => first_wrong_anew(alloc, &program_cut(row)),
@@ -390,7 +390,7 @@ fn first_wrong_of(alloc: Global, cut: Cut, row: &Row) -> Result<Option<usize>, A
     }
 }
 
-/// The first cut of an outcome that leaves something else, and its line.
+/// The first cut of an outcome that doesn't leave the expected state, and its line.
 fn first_wrong_cut(alloc: Global) -> Result<Option<(Outcome, Cut, usize)>, AllocError> {
     for row in ROWS {
         for cut in CUTS {
@@ -413,11 +413,11 @@ const NUMBERED: [Line; 23] = [
     Line::Arm(3, Outcome::Torn),
     Line::Arm(1, Outcome::Whole),
     Line::Program(0, 1, Some(Ending::Done)),
-    // Reads are counted as calls, and not by stops. Call 2 of the flash fails.
+    // Reads are counted as calls, but not by stops. Call 2 of the flash fails.
     Line::ReadPage(0, 0, Err(MediaError::Failed)),
     Line::Write(0, 1, Ending::Failed),
     Line::Program(0, 2, Some(Ending::Cut(Outcome::Torn))),
-    // Calls with power off are counted by nobody.
+    // Calls with power off aren't counted at all.
     Line::ReadPage(0, 1, Err(MediaError::PowerLost)),
     Line::Erase(0, Some(Ending::Off)),
     Line::Flush(Ending::Off),
@@ -444,7 +444,7 @@ const NUMBERED: [Line; 23] = [
     })),
 ];
 
-/// Goes through the lines on devices of which the calls with these numbers fail.
+/// Goes through the lines on devices whose calls with these numbers fail.
 fn first_wrong_failing(
     alloc: Global,
     flash: &[u64],
@@ -502,8 +502,8 @@ fn write_and_read<R: Rig>(rig: &mut R, lba: u64) -> Result<Option<u64>, Fail> {
     Ok(Some(tag(&block)))
 }
 
-/// Arms a stop and cuts power. It says how many stops are armed then, and whether power is on before and after
-/// it is turned on.
+/// Arms a stop and cuts power. Answers how many stops are then armed, and whether power is on before and after it is
+/// turned on.
 fn cut_and_turn_on<R: Rig>(rig: &mut R) -> (u32, bool, bool) {
     if rig.armed() < 16 {
         rig.arm(5, Outcome::Torn);
@@ -551,7 +551,7 @@ impl Draw {
     }
 }
 
-/// What the media answer to a device write that ended so.
+/// The answer of the media to a device write with this ending.
 fn answer(ending: Ending) -> Result<(), MediaError> {
     match ending {
         Ending::Done => Ok(()),
@@ -568,7 +568,7 @@ fn program_at<R: Rig>(rig: &mut R, at: Place, number: u64) -> Result<(), MediaEr
     rig.program(at, &tagged(number), &SPARE)
 }
 
-/// Programs the next page of a block of both, where it is ready and has one. Whether they answer alike.
+/// Programs the next page of a block of both rigs, if it is ready and has one. Answers whether both answer alike.
 fn same_program(rig: &mut MemRig, plain: &mut Plain, block: u32, number: u64) -> bool {
     if block >= rig.flash_blocks() {
         return false;
@@ -583,7 +583,7 @@ fn same_program(rig: &mut MemRig, plain: &mut Plain, block: u32, number: u64) ->
     answered == answer(plain.program(block, page, number))
 }
 
-/// Arms both with one more cut, drawn at random, while there is room.
+/// Arms both rigs with one more cut, drawn at random, while there is room.
 fn arm_both<R: Rig>(rig: &mut R, plain: &mut Plain, draw: &mut Draw) -> Result<(), AllocError> {
     let after = u64::from(draw.below(32)) + 1;
     let outcome = draw.outcome();
@@ -594,7 +594,7 @@ fn arm_both<R: Rig>(rig: &mut R, plain: &mut Plain, draw: &mut Draw) -> Result<(
     Ok(())
 }
 
-/// One call, drawn at random, of both, but no program. Whether they answer alike.
+/// Makes one call of both rigs, drawn at random, but no program. Answers whether both answer alike.
 fn same_step<R: Rig>(
     rig: &mut R,
     plain: &mut Plain,
@@ -635,7 +635,7 @@ fn same_step<R: Rig>(
     Ok(same)
 }
 
-/// Whether both read the same at a page and an address, and tell the same of themselves.
+/// Whether both rigs read the same at a page and an address, and say the same of themselves.
 fn same_state<R: Rig>(rig: &mut R, plain: &mut Plain, draw: &mut Draw) -> bool {
     let block = draw.below(4);
     let page = draw.below(7);
@@ -664,7 +664,7 @@ fn same_next(rig: &MemRig, plain: &Plain, block: u32) -> bool {
     plain.next.get(block as usize).copied() == Some(next)
 }
 
-/// Numbers at this distance from each other.
+/// Numbers with this distance between them.
 fn every(alloc: Global, distance: u64) -> Result<Vec<u64>, AllocError>
     requires { distance < 100 }
 {

@@ -7,7 +7,7 @@ use Rattle.std.specs.Option.{option_map_or}
 use Rattle.lru.specs.LruCache.{LruCache, put_entries}
 use Rattle.dirty_table.specs.Groups.{has, without_first, touched}
 
--- a group that is not there is not taken out
+-- without a group that is absent a list is unchanged
 pub without_absent : (k : ℕ) (xs : List ℕ) → has k xs ≡ false → without_first k xs ≡ xs
 without_absent k [] h = refl
 without_absent k (x ∷ xs) h = (elim (nat_eq k x) as (λ b. nat_eq k x ≡ b → without_first k (x ∷ xs) ≡ x ∷ xs) [
@@ -50,7 +50,7 @@ module _ {V : Type 0} (k : ℕ) where
     | false ↦ λ t. key_of_entry es f (rw t at h)
   ]) refl
 
--- with room, `put` touches its key
+-- if there is room, `put` touches its key
 pub keys_put : {V : Type 0} (c : LruCache ℕ V) (k : ℕ) (v : V) → (has k (keys_of c.entries) ≡ true) ⊎ (length (keys_of c.entries) < c.cap)
     → keys_of (put_entries nat_eq c k v) ≡ touched k (keys_of c.entries)
 keys_put {V} c k v room = go (lookup_entry (nat_eq k) c.entries) refl

@@ -2,7 +2,7 @@
 use Rattle.std.specs.Prelude.{ℕ, ◌-◌, ◌==◌, List, [], ◌∷◌, length, slice_get, Bool, Option, if◌then◌else◌}
 use Rattle.std.specs.List.{list_any}
 
--- the groups, the last touched first, and how many there may be
+-- the groups, the last touched first, and the most groups that there may be
 pub record Groups : Type 0 where
   pub order : List ℕ
   pub limit : ℕ

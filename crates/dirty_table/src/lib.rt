@@ -1,9 +1,8 @@
-//! The dirty groups in the order of their last write, so that the one written longest ago is found at
-//! once.
+//! The dirty groups in the order of their last write, so that the one written longest ago is found at once.
 //!
-//! The layer above relies on this: the table is a list of distinct groups with a limit; `touch` brings
-//! a group to the front and is refused only where memory for a new group is wanting, with the table
-//! as before; `remove` takes a group out; `oldest` is the last of the list.
+//! The layer above relies on this: the table is a list of distinct groups with a limit. `touch` brings a group to the
+//! front; it fails only if there is no memory for a new group, and then the table is unchanged. `remove` takes a group
+//! out, and `oldest` is the last group of the list.
 #![tactic(auto)]
 
 ghost use Rattle.std.specs.Prelude.{◌≡◌, ◌<◌, ◌≤◌, ◌⊎◌, [], length, IfOk, OnOk, OnErr, IsOk, IsTrue, nat_eq};
@@ -17,7 +16,7 @@ use std::alloc::{AllocError, Global};
 use std::marker::Model;
 use std::num::NonZeroUsize;
 
-/// Groups, the one touched last in front, of which there are at most a limit.
+/// Groups, the one touched last in front, and the most groups that there may be.
 #[derive(Drop)]
 pub struct DirtyTable {
     cache: LruCache<u64, ()>,
@@ -36,7 +35,7 @@ impl Model for DirtyTable {
 }
 
 impl DirtyTable {
-    /// An empty table for `c` groups, 1 at least.
+    /// An empty table for at most `c` groups, with `c` at least 1.
     pub fn new(alloc: Global, c: u32) -> Result<DirtyTable, AllocError>
         requires { 0 < c }
         ensures { IfOk result (λ t. t ≡ groups_in_order [] c) }
@@ -49,7 +48,7 @@ impl DirtyTable {
         })
     }
 
-    /// Brings the group to the front. Never refused for a group that is there; refused, nothing changes.
+    /// Brings the group to the front. It never fails for a group that is there. On `Err` nothing has changed.
     #[tactic(auto, using(crate::proofs::GroupsLemmas::keys_put, crate::proofs::GroupsLemmas::has_lookup))]
     pub fn touch(&mut self, group: u64) -> Result<(), AllocError>
         requires { IsTrue (has group self.old.order) ⊎ (length self.old.order < self.old.limit) }
@@ -72,7 +71,7 @@ impl DirtyTable {
         self.cache.pop(&group).is_some()
     }
 
-    /// Whether the group is there. The order stays.
+    /// Whether the group is there. The order is unchanged.
     #[tactic(auto, using(crate::proofs::GroupsLemmas::has_lookup))]
     pub fn has(&self, group: u64) -> bool
         ensures { result ≡ has group self.now.order }
@@ -80,7 +79,7 @@ impl DirtyTable {
         self.cache.contains(&group)
     }
 
-    /// The group touched longest ago, and `None` exactly where there is none.
+    /// The group touched longest ago, and `None` if there is no group, and only then.
     pub fn oldest(&self) -> Option<u64>
         ensures { result ≡ oldest_of self.now.order }
     {
@@ -90,7 +89,7 @@ impl DirtyTable {
         }
     }
 
-    /// How many groups there are. They are distinct, and no more than the limit.
+    /// How many groups there are. They are distinct, and at most as many as the limit.
     pub fn len(&self) -> u32
         ensures len { result ≡ length self.now.order }
         ensures within { result ≤ self.now.limit }

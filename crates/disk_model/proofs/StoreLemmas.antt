@@ -1,4 +1,4 @@
--- The values of each address as blocks are written and put back.
+-- The values of each address while blocks are written and put back.
 use Rattle.std.proofs.Common.{◌≡◌, ◌==◌, ℕ, List, [], ◌∷◌, ◌++◌, refl, sym, ◌∙◌, ap, arith, Option, Some, None, append_assoc, cond, Bool, true, false, inl, inr, subst, eq-eqb, IsSome, ◌%◌}
 use Rattle.std.specs.Prelude.{Box}
 use Rattle.std.proofs.lemmas.List.{append-nil}
@@ -22,7 +22,7 @@ use Rattle.disk_model.specs.Store.{replaced_at, values_in}
 abbrev Blocks : Type 0
 Blocks = BTreeMap ℕ (Box Block Global)
 
--- the newest of those that were replaced is the one that was pushed last
+-- the newest of the replaced blocks is the one that was pushed last
 replaced_push : (replaced : List Replaced) (last : Replaced) (a : ℕ) → replaced_at (replaced ++ last ∷ []) a ≡ cond (last.lba == a) (block_in last.block ∷ []) [] ++ replaced_at replaced a
 replaced_push [] last a = sym (append-nil (cond (last.lba == a) (block_in last.block ∷ []) []))
 replaced_push (first ∷ replaced) last a = ap (λ l. l ++ cond (first.lba == a) (block_in first.block ∷ []) []) (replaced_push replaced last a) ∙ append_assoc (cond (last.lba == a) (block_in last.block ∷ []) []) (replaced_at replaced a) _
@@ -96,14 +96,14 @@ put_newest_back outcome newest back rest last flushes is a = elim (cases_eq last
       ap (cut_value outcome a) (same_values (values_in back rest a) (values_in newest (rest ++ last ∷ []) a) (is a ∙ ap (λ t. cond t (block_in last.block) (block_in (get nat_cmp newest a))) test) (sym none))
 ]
 
--- where nothing is owed a cut changes nothing
+-- if each value is flushed, a cut changes nothing
 pub cut_flushed : (outcome : Outcome) (lba : ℕ) (newest : Block) → cut_value outcome lba (record { newest = newest; earlier = [] }) ≡ newest
 cut_flushed outcome.Blank lba newest = refl
 cut_flushed outcome.Whole lba newest = refl
 cut_flushed outcome.Torn lba newest = either (lba % 2 == 1) newest
 cut_flushed outcome.Mixed lba newest = either (lba % 2 == 1) newest
 
--- one more that was replaced is not none
+-- a block that was replaced at an address shows that it was written
 last_present : (newest : Blocks) (rest : List Replaced) (last : Replaced) → ((a : ℕ) → get nat_cmp newest a ≡ None → replaced_at (rest ++ last ∷ []) a ≡ []) → IsSome (get nat_cmp newest last.lba)
 last_present newest rest last present = by_cases (get nat_cmp newest last.lba) (present last.lba)
   where

@@ -6,7 +6,7 @@ use Rattle.device_calls.specs.declared.calls.Calls.{Calls}
 use Rattle.disk_model.specs.declared.disk.MemDisk.{MemDisk}
 use Rattle.disk_model.specs.StoreValues.{store_values}
 
--- its blocks
+-- how many blocks it has
 abbrev pub size_of : MemDisk → ℕ
 size_of disk = disk.size
 
@@ -14,7 +14,7 @@ size_of disk = disk.size
 abbrev pub disk_lists : MemDisk → ℕ → Values
 disk_lists disk = store_values disk.store
 
--- its calls, and those that failed
+-- its calls, and how many of them failed
 abbrev pub calls_of : MemDisk → Calls
 calls_of disk = disk.calls
 

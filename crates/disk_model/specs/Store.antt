@@ -8,7 +8,7 @@ use Rattle.ft_base.specs.Contents.{Values}
 use Rattle.ft_base.specs.Plain.{block_in}
 use Rattle.disk_model.specs.declared.replaced.Replaced.{Replaced}
 
--- what the writes since the last flush replaced at an address, newest first
+-- the blocks that the writes since the last flush replaced at an address, newest first
 abbrev pub replaced_at : List Replaced → ℕ → List Block
 replaced_at [] lba = []
 replaced_at (first ∷ later) lba = replaced_at later lba ++ (if first.lba == lba then block_in first.block ∷ [] else [])

@@ -1,4 +1,4 @@
--- The values of each address, of the store that has them.
+-- The values of each address in a store.
 use Rattle.std.specs.Prelude.{ℕ}
 use Rattle.ft_base.specs.Contents.{Values}
 use Rattle.disk_model.specs.declared.store.Store.{Store}

@@ -32,7 +32,7 @@ impl MemDisk {
     ghost use Rattle.disk_model.specs.Disk.{size_of, disk_lists, calls_of, reads_done, writes_done, flushes_done, SameNumbers};
     ghost use Rattle.disk_model.specs.Steps.{write_left, flush_left, TakesMemory};
 
-    /// A disk without a block. The calls with these numbers will fail, from 1.
+    /// A disk without a block. The calls with these numbers, counted from 1, will fail.
     pub fn new(alloc: Global, failing: Vec<u64>) -> MemDisk
         ensures disk { disk_lists result ≡ (new_contents 0 0 0).disk }
         ensures size { size_of result ≡ 0 }
@@ -92,7 +92,7 @@ impl MemDisk {
         Ok(())
     }
 
-    /// Writes a block. Only one that is done or cut takes memory. Refused for want of it, nothing is changed
+    /// Writes a block. Only a write that is done or cut takes memory. On `Err`, when memory fails, nothing has changed
     /// and the call isn't counted.
     pub fn write(&mut self, lba: u64, block: &Block, current: Current) -> Result<Ending, AllocError>
         ensures ending { IfOk result (λ ending. ending ≡ ending_of current (is_listed (calls_of self.old))) }
@@ -123,7 +123,7 @@ impl MemDisk {
         Ok(ending)
     }
 
-    /// Flushes every newest value. It costs in proportion to the writes since the last flush.
+    /// Flushes every newest value. Its cost is proportional to the writes since the last flush.
     pub fn flush(&mut self, current: Current) -> Ending
         ensures ending { result ≡ ending_of current (is_listed (calls_of self.old)) }
         ensures disk { disk_lists self.new ≡ flush_left result (disk_lists self.old) }

@@ -1,6 +1,6 @@
 use ft_base::Block;
 
-/// What a block write replaced: the block of an address, or None where none had been written.
+/// What a block write replaced: the block of an address, or `None` if none had been written.
 #[derive(Drop)]
 pub(crate) struct Replaced {
     pub(crate) lba: u64,

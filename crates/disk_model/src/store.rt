@@ -11,8 +11,8 @@ use ft_base::{Block, Outcome, zero_block};
 use std::alloc::{AllocError, Global};
 use std::collections::BTreeMap;
 
-/// The newest block of each address that was written, and what each write since the last flush replaced,
-/// the oldest first.
+/// The newest block of each address that was written, and the blocks that writes since the last flush replaced, the
+/// oldest first.
 #[derive(Drop)]
 pub(crate) struct Store {
     alloc: Global,
@@ -49,7 +49,7 @@ impl Store {
         }
     }
 
-    /// Writes a block. Refused, each value is as before.
+    /// Writes a block. On `Err` each value is unchanged.
     #[tactic(auto, using(crate::proofs::StoreLemmas::write_values, crate::proofs::StoreLemmas::write_present))]
     pub(crate) fn write(&mut self, lba: u64, block: &Block) -> Result<(), AllocError>
         ensures ok { OnOk result ((a : ℕ) → store_values self.new a ≡ after_write (store_values self.old) lba block.now a) }
@@ -75,7 +75,7 @@ impl Store {
         self.replaced.clear();
     }
 
-    /// Makes of the values of each block what a cut leaves.
+    /// Changes the values of each block to the value that a cut leaves.
     #[tactic(auto, using(crate::proofs::StoreLemmas::cut_flushed))]
     pub(crate) fn settle(&mut self, outcome: Outcome)
         ensures { (a : ℕ) → store_values self.new a ≡ after_cut outcome (store_values self.old) a }

@@ -28,14 +28,14 @@ use Rattle.ft_volume.specs.declared.volume.VolumeError.{VolumeError}
 use Rattle.ft_volume.specs.declared.volume.VolumeError.TheVariants.{FlashFault, DiskFault, PowerLost, OutOfMemory, OutOfVolume}
 use Rattle.ft_volume.specs.Standing.{StandFor}
 
--- what a volume of this mode tells that is made with these options; each write is on the media when it answers
+-- what a volume of this mode, made with these options, says of itself; each write is on the media when it answers
 abbrev pub told_for : Mode → Options → Told
 told_for mode options = record { geometry = options.geometry; dirty = options.dirty; mode = mode; ack = AtWrite }
 
--- a volume at one moment. While it is down nothing is said of what is held and what waits
+-- a volume at one moment. While it is down, nothing is said of the held addresses and the waiting blocks
 pub record VolumeState : Type 0 where
   pub told : Told
-  -- it is to be opened again
+  -- the next call opens it again
   pub down : Bool
   -- the writes that were acknowledged and are not on the media, the oldest first
   pub owed : List BlockWrite
@@ -47,7 +47,7 @@ pub record VolumeState : Type 0 where
   pub log_room : ℕ
   -- pages left of the open log block
   pub open_room : ℕ
-  -- changes of the cache that are only buffered: a crash may undo them, and the plain disk stays the same
+  -- changes of the cache that are only buffered: a crash may undo them, and doesn't change the plain disk by that
   pub buffered : ℕ
 
 -- a call, with the block that it read or writes
@@ -67,27 +67,27 @@ writes_of Reports = []
 
 -- ---- what images stand for
 
--- one of these it is
+-- it is one of these
 abbrev pub IsAny : {A : Type 0} → (A → Type 0) → List A → Type 0
 IsAny is [] = ⊥
 IsAny is (x ∷ xs) = is x ⊎ IsAny is xs
 
--- whatever a crash leaves now stands for one of these
+-- each image that a crash may leave now stands for one of these
 abbrev pub StandForAny : (Image → PlainDisk → Type 0) → Contents → List PlainDisk → Type 0
 StandForAny stands contents ds = (x : Image) → Now contents x → IsAny (stands x) ds
 
--- one of these it is, whatever a crash leaves
+-- one of these is the plain disk for which each image that a crash may leave stands
 abbrev pub StandForOneOf : (Image → PlainDisk → Type 0) → Contents → List PlainDisk → Type 0
 StandForOneOf stands contents ds = IsAny (StandFor stands contents) ds
 
--- of two
+-- the same of two plain disks
 abbrev pub StandForEither : (Image → PlainDisk → Type 0) → Contents → PlainDisk → PlainDisk → Type 0
 StandForEither stands contents d e = (x : Image) → Now contents x → stands x d ⊎ stands x e
 
 abbrev pub StandForOne : (Image → PlainDisk → Type 0) → Contents → PlainDisk → PlainDisk → Type 0
 StandForOne stands contents d e = StandFor stands contents d ⊎ StandFor stands contents e
 
--- reads answer this plain disk: the media, and what is owed on top
+-- reads answer this plain disk: the media, with the owed writes over them
 pub record IsDisk (stands : Told → Image → PlainDisk → Type 0) (v : VolumeState) (contents : Contents) (d : PlainDisk) : Type 0 where
   pub base : PlainDisk
   pub media : StandFor (stands v.told) contents base
@@ -95,7 +95,7 @@ pub record IsDisk (stands : Told → Image → PlainDisk → Type 0) (v : Volume
 
 -- ---- what a call does to the plain disk
 
--- what it answers of the plain disk
+-- what the call finds on the plain disk
 abbrev pub Finds : Call → PlainDisk → Type 0
 Finds (Reads lba block) d = block ≡ d lba
 Finds (Writes lba block) d = ⊤
@@ -103,7 +103,8 @@ Finds Flushes d = ⊤
 Finds Idles d = ⊤
 Finds Reports d = ⊤
 
--- what the media may come to be in it: as they were, with what was owed, with what it writes
+-- the plain disks for which the media may come to stand in the call: unchanged, with the owed writes, or with the
+-- call's own write as well
 abbrev pub stages : List BlockWrite → List BlockWrite → PlainDisk → List PlainDisk
 stages owed writes base = base ∷ after_writes owed base ∷ after_writes writes (after_writes owed base) ∷ []
 
@@ -114,7 +115,7 @@ pub record LeavesOwed (stands : Image → PlainDisk → Type 0) (contents : Cont
   pub owes : owed ≡ drop kept all
   pub media : StandFor stands contents (after_writes (take kept all) base)
 
--- after this answer no two plain disks are possible
+-- after this answer one plain disk alone is possible
 abbrev pub fixes : {T : Type 0} → Result T VolumeError → Bool
 fixes (Ok value) = true
 fixes (Err PowerLost) = true
@@ -127,29 +128,30 @@ pub record WasDone {T : Type 0} (stands : Told → Image → PlainDisk → Type 
   pub lost : IsErrOf result PowerLost → StandForOneOf (stands new.told) after (stages old.owed (writes_of call) base)
   pub done : OnOk result (LeavesOwed (stands new.told) after new.owed (old.owed ++ writes_of call) base)
   pub found : OnOk result (Finds call (after_writes old.owed base))
-  -- refused, it wrote nothing where it stays up, and for want of memory
+  -- on `Err` it wrote nothing, if it stays up or the error is `OutOfMemory`
   pub up : OnErr result (new.down ≡ false → LeavesOwed (stands new.told) after new.owed old.owed base)
   pub memory : IsErrOf result OutOfMemory → LeavesOwed (stands new.told) after new.owed old.owed base
 
--- the opening was refused and the volume is down, or the address is outside of it: each of these plain disks is still possible
+-- the opening failed and the volume is down, or the address is outside of the volume: each of these plain disks is
+-- still possible
 pub record IsUnopened {T : Type 0} (stands : Told → Image → PlainDisk → Type 0) (old new : VolumeState) (after : Contents)
     (result : Result T VolumeError) (bases : List PlainDisk) : Type 0 where
   pub fixes : fixes result ≡ false
   pub inside : (IsErrOf result OutOfVolume → ⊥) → (old.down ≡ true) × (new.down ≡ true)
   pub images : StandForAny (stands new.told) after bases
 
--- of the plain disks that were possible a call fixes one, unless its opening is refused or its address is outside
+-- a call fixes one of the plain disks that were possible, unless its opening fails or its address is outside
 abbrev pub Done : {T : Type 0} → (Told → Image → PlainDisk → Type 0) → Call → VolumeState → VolumeState → Contents → Contents
     → Result T VolumeError → Type 0
 Done stands call old new before after result = (bases : List PlainDisk) → StandForAny (stands old.told) before bases
     → IsAny (WasDone stands call old new after result) bases ⊎ IsUnopened stands old new after result bases
 
--- and so does a cut
+-- a cut fixes one of them too
 abbrev pub Fixes : (Told → Image → PlainDisk → Type 0) → VolumeState → VolumeState → Contents → Contents → Type 0
 Fixes stands old new before after = (bases : List PlainDisk) → StandForAny (stands old.told) before bases
     → StandForOneOf (stands new.told) after bases
 
--- a call that found one plain disk, with nothing owed before or after it
+-- a call that found one plain disk, and nothing was owed before or after it
 pub record WasOne {T : Type 0} (stands : Image → PlainDisk → Type 0) (call : Call) (after : Contents) (result : Result T VolumeError)
     (d : PlainDisk) : Type 0 where
   pub kept : writes_of call ≡ [] → StandFor stands after d
@@ -159,7 +161,7 @@ pub record WasOne {T : Type 0} (stands : Image → PlainDisk → Type 0) (call :
   pub one : IsErrOf result PowerLost → StandForOne stands after d (after_writes (writes_of call) d)
   pub memory : IsErrOf result OutOfMemory → StandFor stands after d
 
--- ---- how a call goes on
+-- ---- what every call does
 
 -- the call answered PowerLost
 abbrev pub volume_lost : {T : Type 0} → Result T VolumeError → Bool
@@ -167,7 +169,7 @@ volume_lost (Err PowerLost) = true
 volume_lost (Err e) = false
 volume_lost (Ok value) = false
 
--- the answer blames the media
+-- the answer names a fault of the media
 abbrev pub blames_media : {T : Type 0} → Result T VolumeError → Bool
 blames_media (Ok value) = false
 blames_media (Err FlashFault) = true
@@ -186,34 +188,36 @@ pub record HasCause {T : Type 0} (old new : Faults) (result : Result T VolumeErr
   pub power_lost : IsErrOf result PowerLost → Rose old.cuts new.cuts
   pub none : blames_media result ≡ false → new ≡ old
 
--- what every call does, whatever it is for
+-- what every call does, whatever its purpose
 pub record Goes {T : Type 0} (old new : VolumeState) (before after : State) (result : Result T VolumeError) : Type 0 where
   pub told : new.told ≡ old.told
   pub up : OnOk result (new.down ≡ false)
   pub lost : before.power.on ≡ true → IsErrOf result PowerLost → new.down ≡ true
   pub memory : IsErrOf result OutOfMemory → old.down ≡ false → new.down ≡ false
-  -- where it is up, each block of the flash that was ready is ready, and after a fault of the disk that is as it was
+  -- if the volume is up, each erase block that was ready is still ready, and after a fault of the disk the disk is
+  -- unchanged
   pub ready : new.down ≡ false → KeepsReady before after
   pub disk : IsErrOf result DiskFault → old.down ≡ false → new.down ≡ false → after.contents.disk ≡ before.contents.disk
   pub cause : HasCause before.faults after.faults result
   pub passes : Passes before after (volume_lost result)
 
--- after calls the volume owns what the media contain, and tells the same of what it was made with
+-- after calls the volume owns the contents of the media, and says that it was made with the same options
 abbrev pub StaysOwner : (Contents → Type 0) → Contents → VolumeState → VolumeState → Type 0
 StaysOwner owns after old new = owns after × (new.told ≡ old.told)
 
--- a device write that was refused leaves it down
+-- a device write that failed leaves the volume down
 pub record FaultDowns {T : Type 0} (result : Result T VolumeError) (down : Bool) : Type 0 where
   pub flash : IsErrOf result FlashFault → down ≡ true
   pub disk : IsErrOf result DiskFault → down ≡ true
 
--- ---- what a volume is once it is up
+-- ---- a volume once it is up
 
 -- the dirty addresses, ascending
 abbrev pub dirty_lbas : Entries → List ℕ
 dirty_lbas m = map (λ x. x.0) (filter (λ x. x.1.dirty) (entries m))
 
--- it is opened over flash that has these entries; its log is empty then, no log block is open, and nothing is buffered
+-- the volume is opened over flash that has these entries; its log is empty then, no log block is open, and nothing is
+-- buffered
 abbrev pub opened : VolumeState → Entries → VolumeState
 opened old m = record old {
   down = false;
@@ -224,11 +228,11 @@ opened old m = record old {
   buffered = 0;
 }
 
--- where it is down it is opened first
+-- if the volume is down, it is opened first
 abbrev pub opened_of : VolumeState → Entries → VolumeState
 opened_of old m = if old.down then opened old m else old
 
--- just these entries' addresses are held
+-- the addresses of these entries are held, and no others
 abbrev pub IsHeldBy : Entries → (ℕ → Bool) → Type 0
 IsHeldBy m held = (a : ℕ) → held a ≡ is_some (get m a)
 
@@ -237,7 +241,7 @@ pub record IsCheckpointed (v : VolumeState) : Type 0 where
   pub log : v.log_room ≡ log_pages v.told.geometry
   pub nothing : v.buffered ≡ 0
 
--- ---- what a call costs of a volume that is up, or that was opened within it
+-- ---- the cost of a call on a volume that is up, or that the call opened
 
 abbrev pub table_after : Call → Told → Table → Table
 table_after (Reads lba block) told t = t
@@ -246,7 +250,7 @@ table_after Flushes told t = t
 table_after Idles told t = table_idled told t
 table_after Reports told t = t
 
--- the blocks that go to the disk in it
+-- how many blocks go to the disk in the call
 abbrev pub backs_of : Call → Told → Table → ℕ
 backs_of (Reads lba block) told t = 0
 backs_of (Writes lba block) told t = backs_written told.mode told lba t
@@ -254,7 +258,7 @@ backs_of Flushes told t = 0
 backs_of Idles told t = backs_idled told t
 backs_of Reports told t = 0
 
--- the blocks that may be read from the disk in it
+-- how many blocks may be read from the disk in the call
 abbrev pub misses : Call → (ℕ → Bool) → ℕ
 misses (Reads lba block) held = if held lba then 0 else 1
 misses (Writes lba block) held = 0
@@ -270,18 +274,19 @@ IsOwn Flushes a = ⊥
 IsOwn Idles a = ⊥
 IsOwn Reports a = ⊥
 
--- the groups of these addresses, with the call's own, are among these few
+-- the groups of these addresses, and of the call's own address, are among these few groups
 pub record LieIn (told : Told) (call : Call) (held : ℕ → Bool) (groups : List ℕ) : Type 0 where
   pub few : length groups ≤ told.geometry.c
   pub all : (a : ℕ) → (held a ≡ true) ⊎ IsOwn call a → list_any (λ k. k == a / told.geometry.p) groups ≡ true
 
--- what is held after an answer: also its own address, and no other new one; all of it, where few groups are held
+-- the addresses that are held after an answer: the call's own, and else only ones that were held; all of those if few
+-- groups are held
 pub record HoldsAfter (told : Told) (call : Call) (old new : ℕ → Bool) : Type 0 where
   pub own : (a : ℕ) → IsOwn call a → new a ≡ true
   pub only : (a : ℕ) → new a ≡ true → (old a ≡ true) ⊎ IsOwn call a
   pub stays : (groups : List ℕ) → LieIn told call old groups → (a : ℕ) → old a ≡ true → new a ≡ true
 
--- whether a call may have used the log before it is refused
+-- whether a call may have used the log before it fails
 abbrev pub may_log : Call → Bool
 may_log (Reads lba block) = false
 may_log (Writes lba block) = true
@@ -289,8 +294,8 @@ may_log Flushes = true
 may_log Idles = false
 may_log Reports = true
 
--- refused, and still up: a read and an idle step leave all as it was; else the table is as it was or lacks its last group, and what is
--- held was held, all of it but an address of the call's own
+-- a call that failed, after which the volume is still up. After a read or an idle step nothing has changed. Else the
+-- table is unchanged or lacks its last group. The same addresses are held, except that the call's own may be dropped
 pub record StaysUp (call : Call) (old new : VolumeState) : Type 0 where
   pub same : may_log call ≡ false → new ≡ old
   pub table : (new.table ≡ old.table) ⊎ (new.table ≡ without_last old.table)
@@ -306,7 +311,7 @@ pub record Costs {T : Type 0} (call : Call) (old new : VolumeState) (before afte
 
 -- ---- what a call asks of the devices
 
--- the flushes of the disk in it: one for a group that is written back, and one for a block that is written through
+-- how often a write flushes the disk: one for a group that is written back, and one for a block that is written through
 abbrev pub flushes_written : Mode → Told → ℕ → Table → ℕ
 flushes_written Back told a t = if is_full told.geometry.c (a / told.geometry.p) t then 1 else 0
 flushes_written Through told a t = 1
@@ -322,7 +327,7 @@ flushes_of Reports told t = 0
 abbrev pub opening_flushes : Bool → ℕ
 opening_flushes down = if down then 1 else 0
 
--- it reads an address that is held, of a volume that is up
+-- the call reads an address that is held, and the volume is up
 abbrev pub FindsHeld : Call → VolumeState → Type 0
 FindsHeld (Reads lba block) v = (v.down ≡ false) × (v.held lba ≡ true)
 FindsHeld (Writes lba block) v = ⊥
@@ -330,7 +335,7 @@ FindsHeld Flushes v = ⊥
 FindsHeld Idles v = ⊥
 FindsHeld Reports v = ⊥
 
--- it writes to a volume that is up and writes back, where the table, the open log block and the log have room
+-- the call writes to a volume that is up and writes back, and the table, the open log block and the log have room
 pub record HasRoom (told : Told) (lba : ℕ) (v : VolumeState) : Type 0 where
   pub up : v.down ≡ false
   pub back : told.mode ≡ Back
@@ -351,16 +356,16 @@ flash_failed (Err FlashFault) = true
 flash_failed (Err e) = false
 flash_failed (Ok value) = false
 
--- of a volume that was so, and was so once it was up: how often the disk is flushed at most, whatever is answered; a read that finds its
--- address held reads the flash alone, and changes nothing; a write that finds room programs a page for its block and one for its record,
--- and no other device write is made
+-- the device calls of a call, on a volume that was `old`, and was `up` once it was up: how often it flushes the disk at
+-- most, whatever it answers. A read that finds its address held only reads the flash, and changes nothing. A write that
+-- finds room programs a page for its block and one for its record, and makes no other device write
 pub record AsksDevices {T : Type 0} (call : Call) (old up new : VolumeState) (before after : State) (result : Result T VolumeError)
     : Type 0 where
   pub flushes : after.counts.disk_flushes ≤ before.counts.disk_flushes + (opening_flushes old.down + flushes_of call up.told up.table)
   pub found : FindsHeld call old → (new ≡ old) × ReadsFlash before after (flash_failed result) (volume_lost result)
   pub two_programs : OnOk result (FindsRoom call old → after.counts ≡ program_counted (program_counted before.counts))
 
--- ---- what an idle step answers, of so many dirty groups and so many pages left of the log
+-- ---- the answer of an idle step, for this many dirty groups and this many pages left of the log
 
 abbrev pub idled_of : Told → ℕ → ℕ → Idled
 idled_of told groups room = if goes_back told.mode told.dirty groups then Cleaned else
@@ -373,7 +378,7 @@ abbrev pub IsFixed : (Image → PlainDisk → Type 0) → Contents → Bool → 
 IsFixed stands contents true ds = StandForOneOf stands contents ds
 IsFixed stands contents false ds = StandForAny stands contents ds
 
--- a volume is opened where it is down, before a call does its work
+-- if the volume is down it is opened, before the call does its work
 pub record ComesUp {T : Type 0} (stands : Told → Image → PlainDisk → Type 0) (loads : Told → (Place → Page) → Entries → Type 0)
     (old new : VolumeState) (before after : State) (result : Result T VolumeError) : Type 0 where
   pub told : new.told ≡ old.told

@@ -15,7 +15,7 @@ use ft_base::{Block, Outcome};
 use ft_media::{Media, Rig};
 use thiserror::Error;
 
-/// Why a call of a volume was refused.
+/// Why a call of a volume failed.
 #[derive(Clone, Copy, Debug, PartialEq, Eq, Error)]
 pub enum VolumeError {
     /// The flash failed, and its count of faults rose.
@@ -24,13 +24,13 @@ pub enum VolumeError {
     /// The disk failed, and its count of faults rose.
     #[error("the disk failed")]
     DiskFault,
-    /// Power was lost, and the count of cuts rose. Where power was on before, the volume is down.
+    /// Power was lost, and the count of cuts rose. If power was on before, the volume is down.
     #[error("power was lost")]
     PowerLost,
-    /// Memory was refused. The plain disk is as before, and the volume can be used.
+    /// There was no memory. The plain disk is unchanged, and the volume can be used.
     #[error("out of memory")]
     OutOfMemory,
-    /// The address is not below the size of the volume. Nothing was changed.
+    /// The address is not below the size of the volume. Nothing has changed.
     #[error("the address is outside of the volume")]
     OutOfVolume,
 }
@@ -42,37 +42,37 @@ pub enum Idled {
     Nothing,
     /// The last group of the table was written back.
     Cleaned,
-    /// A checkpoint was made, since half of the log was used.
+    /// A checkpoint was made, because half of the log was used.
     Checkpointed,
 }
 
-/// What there is in the cache, once all of it is on the flash.
+/// What is in the cache, once all of it is on the flash.
 #[derive(Clone, Copy, Debug, PartialEq, Eq)]
 pub struct Report {
     /// The addresses that are held.
     pub held: u64,
     /// The groups with a dirty address.
     pub dirty_groups: u32,
-    /// The buckets of the map of page-mapped addresses: none, or a power of two from 32 on.
+    /// The buckets of the map of page-mapped addresses: none, or a power of two that is at least 32.
     pub buckets: u64,
     /// The pages that were read, each of an address that is held.
     pub scrubbed: u64,
 }
 
-/// A cache and a disk joined to one disk. The rig of each call is the one with which the volume was
-/// made, and nobody else changes its contents; turning power on is allowed.
+/// A cache and a disk joined to one disk. The rig of each call is the one with which the volume was made. Nobody else
+/// changes its contents, but turning power on is allowed.
 ///
-/// After a write or an idle step that a device refused, a flush that was refused, a report that the disk
-/// refused, and a call that lost power while it was on, the volume is down: the next call opens it again
-/// first, from the media alone, and then does its work. If that opening is refused it stays down.
+/// A write or an idle step that a device failed takes the volume down. So does a flush that failed, a report that the
+/// disk failed, or a call that lost power while it was on. The next call opens it again first, from the media alone,
+/// and then does its work. If that opening fails, the volume stays down.
 pub trait Volume<R: Rig> {
-    /// What it is at this moment.
+    /// The volume at this moment.
     ghost state: { Self → VolumeState };
 
-    /// The contents are those that this volume left.
+    /// The contents are the ones that this volume left.
     ghost owns: { Self → Contents → Type 0 };
 
-    /// An image is this plain disk.
+    /// The image stands for this plain disk.
     ghost stands: { Told → Image → PlainDisk → Type 0 };
 
     /// The flash has these entries.
@@ -82,7 +82,7 @@ pub trait Volume<R: Rig> {
     fn size(&self) -> u64
         ensures { result ≡ (state self.now).told.geometry.size };
 
-    /// Whether the next call opens it again first.
+    /// Whether the next call opens the volume again first.
     fn is_down(&self) -> bool
         ensures { result ≡ (state self.now).down };
 
@@ -119,7 +119,7 @@ pub trait Volume<R: Rig> {
         ensures outside { IsErrOf result VolumeError.OutOfVolume ↔ ((state self.old).told.geometry.size ≤ lba) }
         ensures unchanged { IsErrOf result VolumeError.OutOfVolume → (self.new ≡ self.old) × (R.state rig.new ≡ R.state rig.old) };
 
-    /// Puts all that is owed on the media. It changes no block.
+    /// Puts all owed writes on the media. It changes no block.
     fn flush(&mut self, rig: &mut R) -> Result<(), VolumeError>
         requires { owns self.old (R.state rig.old).contents }
         ensures owns { owns self.new (R.state rig.new).contents }
@@ -158,8 +158,7 @@ pub trait Volume<R: Rig> {
             → (self.new ≡ self.old) × (R.state rig.new ≡ R.state rig.old)) }
         ensures within { IsErrOf result VolumeError.OutOfVolume → ⊥ };
 
-    /// Puts all that is owed on the media, reads every page that is held, and says what there is. It changes
-    /// no block.
+    /// Puts all owed writes on the media, reads every page that is held, and counts them. It changes no block.
     fn report(&mut self, rig: &mut R) -> Result<Report, VolumeError>
         requires { owns self.old (R.state rig.old).contents }
         ensures owns { owns self.new (R.state rig.new).contents }
@@ -179,7 +178,7 @@ pub trait Volume<R: Rig> {
         ensures memory { (state self.old).down ≡ false → IsErrOf result VolumeError.OutOfMemory → ⊥ }
         ensures within { IsErrOf result VolumeError.OutOfVolume → ⊥ };
 
-    /// Turns power off between two device writes, and on again. What is owed is lost.
+    /// Turns power off between two device writes, and on again. The owed writes are lost.
     fn cut(&mut self, rig: &mut R, outcome: Outcome)
         requires { owns self.old (R.state rig.old).contents }
         ensures owns { owns self.new (R.state rig.new).contents }
@@ -188,17 +187,17 @@ pub trait Volume<R: Rig> {
         ensures down { (state self.new).down ≡ true }
         ensures through { CutThrough (R.state rig.old) (R.state rig.new) outcome };
 
-    /// While it is down nothing is owed.
+    /// While the volume is down, nothing is owed.
     ghost down_owes_nothing: { (v : Self) (contents : Contents) → owns v contents → (state v).down ≡ true → (state v).owed ≡ [] };
 
-    /// Where a write is on the media when it answers, nothing is owed.
+    /// If each write is on the media when it answers, nothing is owed.
     ghost write_owes_nothing: { (v : Self) (contents : Contents) → owns v contents → (state v).told.ack ≡ ack.Write → (state v).owed ≡ [] };
 
-    /// What it left can be opened.
+    /// The contents that the volume left can be opened.
     ghost can_be_loaded: { (v : Self) (contents : Contents) → owns v contents
         → (m : Entries) × loads (state v).told contents.flash.page m };
 
-    /// While it is up and nothing is buffered, the flash has exactly what is held.
+    /// While the volume is up and nothing is buffered, the flash has exactly the held addresses.
     ghost flash_has_all: { (v : Self) (contents : Contents) → owns v contents → (state v).down ≡ false → (state v).buffered ≡ 0
         → (m : Entries) → loads (state v).told contents.flash.page m → IsHeldBy m (state v).held };
 }

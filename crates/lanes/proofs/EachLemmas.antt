@@ -57,7 +57,7 @@ All-other_take_vector v xs i n room front empty =
     (All-take_vector (λ x. nat_eq x v) xs i n room
     (All-weaker (λ x. x ≢ v) (λ x. nat_eq x v ≡ false) (unequal_at_other v) (take i xs) front) empty)
 
--- where the front is of the byte alone, the whole is exactly where the rest is
+-- if the front has only this byte, the whole has only this byte exactly when the rest has
 pub IsEach_by_rest : (byte : ℕ) (xs : List ℕ) (i : ℕ) (b : Bool) → IsEach byte (take i xs) → (IsTrue b ↔ IsEach byte (drop i xs))
     → (IsTrue b ↔ IsEach byte xs)
 IsEach_by_rest byte xs i b front rest = (

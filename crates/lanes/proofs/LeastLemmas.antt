@@ -56,7 +56,7 @@ least_of-least [] k d lt = absurd (omega arith)
 least_of-least (x ∷ xs) zero d lt = rw (least_of-cons x xs) (omega arith)
 least_of-least (x ∷ xs) (suc k) d lt = rw (least_of-cons x xs) (omega (arith, least_of-least xs k d (omega arith)))
 
--- and the least is a count, where there is one
+-- the least is one of the counts, if there are any
 pub least_of_reached : (xs : List ℕ) → All (λ x. x ≤ 65535) xs → xs ≢ [] → Contains xs (least_of xs)
 least_of_reached [] small some = absurd (some refl)
 least_of_reached (x ∷ []) small some =

@@ -17,6 +17,6 @@ pub record IsFirstLeast (counts : List ℕ) (place : ℕ) : Type 0 where
   pub least : All (λ count. slice_index counts place ≤ count) counts
   pub first : (k : ℕ) → k < place → slice_index counts place < slice_index counts k
 
--- the least count of the list, and 65,535 where the list is empty
+-- the least count of the list, and 65,535 if the list is empty
 abbrev pub least_of : List ℕ → ℕ
 least_of counts = fold min 65535 counts

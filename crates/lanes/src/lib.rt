@@ -1,8 +1,8 @@
-//! Kernels over byte lanes: whether a page is all ones or all zeros, the exclusive or of two pages,
-//! and the first place of the least count of a list.
+//! Kernels over byte lanes: whether a page is all ones or all zeros, the exclusive or of two pages, and the first place
+//! of the least count in a list.
 //!
-//! The layer above relies on this: each kernel gives what its plain program in `plain` gives, at every
-//! length. A kernel takes whole vectors first, and then the numbers after them one after another.
+//! The layer above relies on this: each kernel gives what its plain program in `plain` gives, at every length. A kernel
+//! takes whole vectors first, and then the numbers after them one after another.
 #![tactic(auto)]
 
 ghost use Rattle.std.specs.Prelude.{◌≡◌, ◌≢◌, ◌≤◌, ◌↔◌, ◌==◌, [], length, take, drop, fold, min, position, All, IsTrue, IsNone, IfSome};
@@ -35,7 +35,7 @@ pub fn xor_into(to: &mut [u8], from: &[u8])
     plain::xor_into(&mut to[done..], &from[done..]);
 }
 
-/// The first place of the least count, and `None` exactly where there are no counts.
+/// The first place of the least count, and `None` if there are no counts, and only then.
 pub fn least(counts: &[u16]) -> Option<usize>
     ensures none { IsNone result ↔ (counts.now ≡ []) }
     ensures first { IfSome result (IsFirstLeast counts.now) }
@@ -50,7 +50,7 @@ fn is_each(bytes: &[u8], byte: u8) -> bool
     plain::is_each(&bytes[done..], byte)
 }
 
-// How many bytes from the front are `byte`, in whole vectors: up to the first vector with another.
+// How many bytes from the front are `byte`, in whole vectors: up to the first vector with another byte.
 fn vectors_of(bytes: &[u8], byte: u8) -> usize
     ensures within { result ≤ length bytes.now }
     ensures each { IsEach byte (take result bytes.now) }
@@ -83,7 +83,7 @@ fn xor_vectors(to: &mut [u8], from: &[u8]) -> usize
     done
 }
 
-// The least count, and 65,535 where there are none.
+// The least count, and 65,535 if there are none.
 fn least_count(counts: &[u16]) -> u16
     ensures { result ≡ least_of counts.now }
 {
@@ -92,7 +92,7 @@ fn least_count(counts: &[u16]) -> u16
     least_from(least, &counts[done..])
 }
 
-// The least of each lane over whole vectors from the front, and how many counts those are.
+// The least count of each lane over whole vectors from the front, and how many counts those vectors have.
 fn least_lanes(counts: &[u16]) -> ([u16; 8], usize)
     ensures within { result.1 ≤ length counts.now }
     ensures least { least_of result.0 ≡ least_of (take result.1 counts.now) }
@@ -181,7 +181,7 @@ mod tests {
         assert_eq!(rt; to[18], 0xff);
     }
 
-    // The vectors are the compiler's part, so each length is run against the plain programs.
+    // The compiler provides the vectors, so each length is run against the plain programs.
     #[test]
     fn kernels_give_what_the_plain_programs_give(rt: HostRuntime) {
         for length in 0..=40 {

@@ -19,7 +19,7 @@ pub fn xor_into(to: &mut [u8], from: &[u8])
     }
 }
 
-/// The first place of the least count, and `None` exactly where there are no counts.
+/// The first place of the least count, and `None` if there are no counts, and only then.
 pub fn least(counts: &[u16]) -> Option<usize>
     ensures none { IsNone result ↔ (counts.now ≡ []) }
     ensures first { IfSome result (IsFirstLeast counts.now) }

@@ -1,4 +1,4 @@
--- Lists of log blocks, and what each call leaves of a sound one.
+-- Lists of log blocks, and how each call leaves a sound one.
 use Rattle.std.proofs.Common.{◌≡◌, ℕ, ◌+◌, ◌-◌, ◌<◌, ◌≤◌, Bool, true, false, not, ◌&&◌, ◌||◌, cond, nat_eq, List, [], ◌∷◌, ◌++◌, length, get_or, take, filter, slice_get, Option, Some, None, IfSome, refl, sym, ap, ◌∙◌, subst, arith, length-append}
 use Rattle.std.specs.Cmp.{nat_eq_equiv}
 use Rattle.std.specs.List.{IsDistinct, AllByRecursion}
@@ -90,7 +90,7 @@ length-without block (x ∷ xs) distinct there = (elim (nat_eq block x) as (λ b
 pub sound_new : (g : Geometry) (list : List ℕ) → list ≡ [] → AreSoundLogs (record { geometry = g; used = list; open_block = None; room = 0 })
 sound_new g list none = subst (λ (l : List ℕ). AreSoundLogs (record { geometry = g; used = l; open_block = None; room = 0 })) (sym none) (record { distinct = IsDistinct-none; few = omega arith; last = tt; closed = λ _. refl; within = omega arith })
 
--- where pages are left, the open block is the last
+-- if pages are left, the open block is the last
 pub open_is_last : (logs : LogBlocksValue) → AreSoundLogs logs → 1 ≤ logs.room → logs.open_block ≡ last_of logs.used
 open_is_last logs sound some = at logs.open_block refl sound.last
   where
@@ -98,7 +98,7 @@ open_is_last logs sound some = at logs.open_block refl sound.last
     at None is last = absurd (omega (arith, sound.closed is))
     at (Some b) is last = is ∙ sym last
 
--- ---- what is sound. A call finds `now`, which is what its fields are.
+-- ---- soundness. A call finds `now`, which has its fields.
 
 module _ (view now : LogBlocksValue) (same : view ≡ now) (block : ℕ) (list : List ℕ) (sound : AreSoundLogs view) where
   pub sound_adopted : list ≡ view.used ++ block ∷ [] → (IsInUse now block → ⊥) → length now.used < now.geometry.l → AreSoundLogs (record { geometry = view.geometry; used = list; open_block = None; room = 0 })

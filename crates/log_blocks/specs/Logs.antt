@@ -48,7 +48,7 @@ block_begun block logs = record logs { used = logs.used ++ block ∷ []; open_bl
 abbrev pub adopted : ℕ → LogBlocksValue → LogBlocksValue
 adopted block logs = record logs { used = logs.used ++ block ∷ []; open_block = None; room = 0 }
 
--- the block is out of the list; where it was the open one, none is open
+-- the block is out of the list; if it was the open one, none is open
 abbrev pub released : ℕ → LogBlocksValue → LogBlocksValue
 released block logs = record logs {
   used = without_block block logs.used;
@@ -60,11 +60,11 @@ released block logs = record logs {
 abbrev pub next_page : LogBlocksValue → ℕ
 next_page logs = logs.geometry.p - logs.room
 
--- where that page lies
+-- the place of that page
 abbrev pub append_place : LogBlocksValue → Place
 append_place logs = record { block = unwrap_or logs.open_block 0; page = next_page logs }
 
--- the page that was next is answered, and the open block has one page less left
+-- the answer is the page that was next, and the open block has one page less left
 pub record TakesNext (old new : LogBlocksValue) (at : Place) : Type 0 where
   pub place : at ≡ append_place old
   pub logs : new ≡ record old { room = old.room - 1 }

@@ -1,9 +1,9 @@
-//! The log blocks in use, as a list to whose end each new one goes, and the open one, whose pages are
-//! programmed one after another.
+//! The log blocks in use, as a list to whose end each new block goes, and the open one, whose pages are programmed one
+//! after another.
 //!
-//! The layer above relies on this: the list has distinct erase blocks, at most L of them; the open block
-//! is its last; `append` programs the open block's next page, with the address in the page's spare
-//! bytes, and whatever it answers no other page changes. Only `new` takes memory.
+//! The layer above relies on this: the list has distinct erase blocks, at most L of them, and the open block is its
+//! last. `append` programs the open block's next page, with the address in the page's spare bytes. Whatever it answers,
+//! no other page changes. Only `new` allocates anything.
 #![tactic(auto)]
 
 mod laws;

@@ -14,7 +14,7 @@ use page_oob::write_spare;
 use std::alloc::{AllocError, Global};
 use std::marker::Model;
 
-/// The log blocks in use, each in the list after those that were there when it was put in; there are at most L.
+/// The log blocks in use, at most L. Each stands in the list after the blocks that were there when it was put in.
 #[derive(Drop)]
 pub struct LogBlocks {
     geometry: Geometry,
@@ -49,7 +49,7 @@ impl LogBlocks {
         })
     }
 
-    /// The pages of the open block that are left, 0 to P, and 0 where no block is open.
+    /// The pages of the open block that are left, 0 to P. It is 0 if no block is open.
     pub fn room(&self) -> u32
         ensures room { result ≡ self.now.room }
         ensures sound { AreSoundLogs self.now }
@@ -57,7 +57,7 @@ impl LogBlocks {
         self.room
     }
 
-    /// The front block of the list, which has been in it longest, and `None` exactly where none is in use.
+    /// The front block of the list, which has been in it longest, and `None` if none is in use, and only then.
     pub fn oldest(&self) -> Option<u32>
         ensures oldest { result ≡ slice_get self.now.used 0 }
         ensures in_use { IfSome result (IsInUse self.now) }
@@ -94,7 +94,7 @@ impl LogBlocks {
         self.room = self.geometry.p;
     }
 
-    /// Puts a block at the end whose pages are not to be programmed. No block is open then.
+    /// Puts a block at the end whose pages are not to be programmed. After that no block is open.
     pub fn adopt(&mut self, block: u32)
         requires fresh { ¬ IsInUse self.old block }
         requires few { length self.old.used < self.old.geometry.l }
@@ -103,14 +103,14 @@ impl LogBlocks {
     {
         match self.used.push(block) {
             Ok(()) => {}
-            // The list was made with room for all L log blocks, and fewer are in it.
+            // The list was made with room for all L log blocks, and it has fewer.
             Err(_) => unreachable!(),
         }
         self.open_block = None;
         self.room = 0;
     }
 
-    /// Takes a block out of the list. Where it was the open one, none is open then.
+    /// Takes a block out of the list. If it was the open one, none is open after that.
     pub fn release(&mut self, block: u32)
         requires { IsInUse self.old block }
         ensures released { self.new ≡ released block self.old }
@@ -123,8 +123,8 @@ impl LogBlocks {
         }
     }
 
-    /// Programs a block into the next page of the open log block, as a data page of the address. Refused,
-    /// the list, the open block and its room stay, and after `Failed` that block is not ready.
+    /// Programs a block into the next page of the open log block, as a data page of the address. On `Err` the list, the
+    /// open block and its room are unchanged; after `Failed` that block is not ready.
     pub fn append<M: Media>(
         &mut self,
         media: &mut M,
@@ -138,7 +138,7 @@ impl LogBlocks {
         ensures programmed { OnOk result ((M.state media.new).contents.flash ≡ after_program (M.state media.old).contents.flash
             (append_place self.old) block.now (data_spare lba)) }
         ensures refused { OnErr result (self.new ≡ self.old) }
-        // Whatever is answered, and wherever power went off, no other page changes.
+        // Whatever the answer is, and whenever power goes off, no other page changes.
         ensures page { LeavesPage (M.state media.old).contents.flash (M.state media.new).contents.flash (append_place self.old) block.now
             (data_spare lba) }
         ensures not_ready { IsErrOf result MediaError.Failed
@@ -161,7 +161,7 @@ impl LogBlocks {
         ensures place { result ≡ append_place self.now }
         ensures page { result.page < self.now.geometry.p }
     {
-        // Pages are left only where a block is open.
+        // Pages are left only if a block is open.
         let Some(block) = self.open_block else {
             unreachable!()
         };

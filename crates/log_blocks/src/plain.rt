@@ -1,4 +1,4 @@
-//! The plain programs, over a list of blocks, with the one in front that was put in first.
+//! The plain programs, over a list of blocks in which the block that was put in first is in front.
 ghost use Rattle.std.specs.Prelude.{◌≡◌, IfOk};
 ghost use Rattle.log_blocks.specs.Logs.{is_in, without_block, last_of};
 

@@ -1,4 +1,4 @@
--- A cache of nothing on a flash that was formatted, and a page put into a cache.
+-- An empty cache on a flash that was formatted, and a page put into a cache.
 use Rattle.std.proofs.Common.{◌≡◌, ℕ, ◌==◌, Bool, true, false, cond, Option, List, [], ◌∷◌, ◌++◌, Some, None, sym, ◌∙◌, ap, subst}
 use Rattle.std.specs.FinMap.{get}
 use Rattle.ft_base.specs.declared.geometry.Geometry.{Geometry}
@@ -16,12 +16,12 @@ use Rattle.cache_model.proofs.FitsLemmas.{fits-from}
 use Rattle.op_log.specs.Log.{LogValue, pushed}
 use Rattle.checkpoint.specs.Current.{IsCurrent, AreWhole, IsOpenLog, IsCommitted, PoolStays, log_formatted}
 
--- a cache of nothing is what a formatted flash stands for
+-- a formatted flash stands for an empty cache
 pub begun : (g : Geometry) (m : Entries) (log : LogValue) (flash : Flash) → m ≡ no_entries → log ≡ log_formatted g → IsCommitted flash (log_formatted g) no_entries → IsCommitted flash log m
 begun g m log flash none is begins =
     subst (λ (l : LogValue). IsCommitted flash l m) (sym is) (subst (λ (n : Entries). IsCommitted flash (log_formatted g) n) (sym none) begins)
 
--- ---- a page more
+-- ---- one more page
 
 module _ (g : Geometry) (m m' : Entries) (log log' : LogValue) (change : Record) (same : g ≡ log.geometry) (fit : Fits g change m) (applied : m' ≡ after g change m) (buffered : log' ≡ pushed change log) (old now : Contents) (stays : now ≡ old) (committed : IsCommitted old.flash log m) where
   pub pushed_current : IsCurrent now.flash.page log' m'
@@ -53,6 +53,6 @@ put_whole g m m' lba at dirty old now stays whole here applied = subst (λ (x : 
     by_address true o e was is = let same : in_log_block at dirty ≡ e = cc in subst (λ (x : Entry). is_whole (old.flash.page x.place) ≡ true) same here
     by_address false o e was is = was e is
 
--- what lies in the pool stays whole
+-- pages of the pool stay whole
 pub whole_still : (g : Geometry) (m : Entries) (old new : Place → Page) → IsMap g m → AreWhole old m → PoolStays g old new → AreWhole new m
 whole_still g m old new is_map whole stays = record { whole = λ a e at. ap is_whole (stays e.place (is_map.in_pool a e at).above) ∙ whole.whole a e at }

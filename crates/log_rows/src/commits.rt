@@ -28,7 +28,7 @@ struct Cache {
     checkpoints: Checkpoints,
 }
 
-/// A cache of nothing, in region 0 and of era 0.
+/// An empty cache, in region 0 and of era 0.
 fn begin<M: Media>(media: &mut M, alloc: Global, geometry: &Geometry) -> Result<Cache, Stuck>
     requires shape { FitsOn geometry.now (M.state media.old).contents.shape }
     ensures shape { IfOk result (λ c. FitsOn c.log.geometry (M.state media.new).contents.shape) }
@@ -118,21 +118,21 @@ fn put<M: Media>(media: &mut M, cache: &mut Cache, lba: u64) -> Result<(), Stuck
     Ok(())
 }
 
-// ---- what is seen
+// ---- facts that are seen
 
-/// What was seen of a cache.
+/// The facts that were seen of a cache.
 #[derive(Clone, Copy)]
 struct Seen {
     /// Whether power was lost.
     lost: bool,
     /// How many blocks were erased, and how many pages programmed.
     wrote: (u64, u64),
-    /// The pages that the log has left.
+    /// How many pages the log has left.
     room: u32,
     newest: Option<Newest>,
 }
 
-/// What was written since, and what can be seen now.
+/// The writes since `before`, and the facts that can be seen now.
 fn look<R: Rig>(rig: &mut R, cache: &Cache, before: Counts, lost: bool) -> Result<Seen, MediaError>
     requires shape { FitsOn cache.now.log.geometry (R.state rig.old).contents.shape }
     requires geometry { cache.now.geometry ≡ cache.now.log.geometry }
@@ -149,7 +149,7 @@ fn look<R: Rig>(rig: &mut R, cache: &Cache, before: Counts, lost: bool) -> Resul
     })
 }
 
-/// The block of an address is put so often, which is committed each time.
+/// Puts the block of an address `count` times, and commits each time.
 fn put_often<R: Rig>(rig: &mut R, cache: &mut Cache, count: u32) -> Result<Seen, Stuck>
     requires shape { FitsOn cache.old.log.geometry (R.state rig.old).contents.shape }
     requires geometry { cache.old.geometry ≡ cache.old.log.geometry }
@@ -165,7 +165,7 @@ fn put_often<R: Rig>(rig: &mut R, cache: &mut Cache, count: u32) -> Result<Seen,
     Ok(look(rig, cache, before, false)?)
 }
 
-/// A checkpoint with a stop armed, and what was done in it and counts after it.
+/// Makes a checkpoint with a stop armed. Answers what it wrote, and which checkpoint counts after it.
 fn stopped_checkpoint<R: Rig>(
     rig: &mut R,
     cache: &mut Cache,
@@ -194,18 +194,18 @@ fn stopped_checkpoint<R: Rig>(
 
 // ---- the examples
 
-/// What is done with a cache of nothing.
+/// An action on an empty cache.
 #[derive(Clone, Copy)]
 enum Act {
-    /// The block of an address is put so often, which is committed each time.
+    /// The block of an address is put this often, and committed each time.
     Put(u32),
-    /// A checkpoint is made, in which this device write is cut so.
+    /// A checkpoint is made, in which this device write is cut with this outcome.
     Cut(u64, Outcome),
-    /// The same where an address is held, and its change is buffered.
+    /// The same, while an address is held, and its change is buffered.
     HoldAndCut(u64, Outcome),
 }
 
-/// What is done with a cache of nothing, and what is seen then.
+/// An action on an empty cache, and the facts that are then seen.
 #[derive(Clone, Copy)]
 struct Example {
     act: Act,
@@ -213,9 +213,9 @@ struct Example {
     lost: bool,
     /// How many blocks are erased, and how many pages programmed.
     wrote: (u64, u64),
-    /// The pages that the log has left, where that is told.
+    /// How many pages the log has left, if the example says so.
     room: Option<u32>,
-    /// The checkpoint that counts then.
+    /// The checkpoint that then counts.
     counts: Counted,
 }
 
@@ -237,7 +237,7 @@ fn carry_out<R: Rig>(rig: &mut R, cache: &mut Cache, act: Act) -> Result<Seen, S
     }
 }
 
-/// Makes a cache of nothing, and does this with it.
+/// Makes an empty cache, and does this action with it.
 fn act_anew(
     alloc: Global,
     rig: &mut MemRig,
@@ -270,7 +270,7 @@ fn is_as_told(example: &Example, seen: Seen) -> bool {
         && is_counted(seen.newest, example.counts)
 }
 
-/// Goes through the examples. Says which is the first that is otherwise.
+/// Goes through the examples. Answers the first that differs.
 fn first_other(alloc: Global, examples: &[Example]) -> Option<usize> {
     let Some(geometry) = geometry() else {
         return Some(0);
@@ -284,7 +284,7 @@ fn first_other(alloc: Global, examples: &[Example]) -> Option<usize> {
     None
 }
 
-/// Goes through the examples, all of which must be so.
+/// Goes through the examples, all of which must hold.
 fn assert_all(rt: &(impl Abort + AllocGlobal), examples: &[Example]) {
     assert_none(rt, first_other(rt.alloc(), examples));
 }
@@ -313,7 +313,7 @@ fn a_full_log_gives_way_to_a_checkpoint(rt: HostRuntime) {
 }
 
 const OF_NOTHING: [Example; 2] = [
-    // Two erases, and then the seal of a map of nothing.
+    // Two erases, and then the seal of an empty map.
     Example {
         act: Act::Cut(3, Outcome::Torn),
         lost: true,

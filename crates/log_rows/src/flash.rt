@@ -1,4 +1,4 @@
-//! A rig in memory, and what the tests do to its flash.
+//! A rig in memory, and the changes that the tests make to its flash.
 
 ghost use Rattle.std.specs.Bool.{OnTrue};
 ghost use Rattle.mem_rig.specs.Rig.{state_of};
@@ -13,7 +13,7 @@ use std::process::Abort;
 /// The block and the page of a place.
 pub(crate) type At = (u32, u32);
 
-/// An example can't be gone through: no memory is left, or a device refuses a call.
+/// An example can't go on: there is no memory, or a device fails a call.
 #[derive(Clone, Copy)]
 pub(crate) struct Stuck;
 
@@ -29,8 +29,8 @@ impl From<MediaError> for Stuck {
     }
 }
 
-/// Erase blocks of 4 pages. The checkpoint regions are the blocks 0 and 1, those of the log 2 and 3, and the pool
-/// the blocks 4 to 8.
+/// Erase blocks of 4 pages. The checkpoint regions are the blocks 0 and 1, the log regions the blocks 2 and 3, and the
+/// pool the blocks 4 to 8.
 pub(crate) fn geometry() -> Option<Geometry> {
     Geometry::new(4, 2, 2, 1, 64).ok()
 }
@@ -50,7 +50,7 @@ pub(crate) fn fits_on(rig: &MemRig, geometry: &Geometry) -> bool
     rig.disk_blocks() >= geometry.size()
 }
 
-/// Programs the next page of a block. False where there is none.
+/// Programs the next page of a block. False if there is none.
 pub(crate) fn program_next(rig: &mut MemRig, block: u32, bytes: &Block) -> bool {
     if block >= rig.flash_blocks() {
         return false;
@@ -65,7 +65,7 @@ pub(crate) fn program_next(rig: &mut MemRig, block: u32, bytes: &Block) -> bool 
     true
 }
 
-/// Erases a block. False where there is none.
+/// Erases a block. False if there is none.
 pub(crate) fn erase(rig: &mut MemRig, block: u32) -> bool {
     if block >= rig.flash_blocks() {
         return false;
@@ -83,7 +83,7 @@ pub(crate) fn arm(rig: &mut MemRig, outcome: Outcome) -> bool {
     true
 }
 
-/// Reads a page. False where there is none, or it isn't whole.
+/// Reads a page. False if there is none, or it isn't whole.
 pub(crate) fn read(rig: &mut MemRig, at: At, bytes: &mut Block, spare: &mut Spare) -> bool {
     let (block, page) = at;
     if block >= rig.flash_blocks() || page >= rig.flash_pages() {
@@ -95,7 +95,7 @@ pub(crate) fn read(rig: &mut MemRig, at: At, bytes: &mut Block, spare: &mut Spar
     )
 }
 
-/// Sees that nothing was found that is otherwise.
+/// Checks that no difference was found.
 pub(crate) fn assert_none(rt: &impl Abort, other: Option<usize>) {
     assert_eq!(rt; other, None);
 }

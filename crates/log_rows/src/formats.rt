@@ -33,7 +33,7 @@ const OLD_CHECKPOINT: [Line; 15] = [
     Line::Loads(Answer::Loaded(0, 0, 2)),
     Line::Put(2, Put::Log(1, Change::PageOut(5))),
     Line::Loads(Answer::Loaded(0, 0, 2)),
-    // A page of format 1 is none of the log of a checkpoint of format 2.
+    // A page of format 1 doesn't belong to the log of a checkpoint of format 2.
     Line::Sealed,
     Line::Put(2, Put::Old(PageKind::Log, 0, 0, PAGE_5)),
     Line::Loads(Answer::Loaded(0, 0, 0)),
@@ -71,7 +71,8 @@ fn a_checkpoint_has_one_format(rt: HostRuntime) {
     assert_all(&rt, &TWO_FORMATS);
 }
 
-/// Two groups with a data block, and two addresses in a log block, of which the log changes some. Of two records a page.
+/// Two groups with a data block, and two addresses in a log block; the log changes some of them. Each page has two
+/// records.
 const FOUR_RECORDS: Old = Old {
     region: 1,
     era: 2,
@@ -155,7 +156,7 @@ const GROUP_TOTALS: [Line; 12] = [
     Line::Put(0, MAP_GROUP),
     Line::Put(0, Put::Told(1, 2, 0)),
     Line::Loads(Answer::Loaded(0, 0, 2)),
-    // A count of what lies in log blocks alone.
+    // It counts only the addresses in log blocks.
     Line::Anew,
     Line::Put(4, Put::Data),
     Line::Put(4, Put::Data),
@@ -170,18 +171,18 @@ fn entries_of_data_blocks_count(rt: HostRuntime) {
 }
 
 const ORDER: [Line; 16] = [
-    // A damaged map page is told first.
+    // A damaged map page comes first.
     Line::Anew,
     Line::Put(0, Put::Spoilt(PageKind::Map, 0, 0, PAGE_5, 4095)),
     Line::Put(0, Put::Told(1, 2, 1)),
     Line::Loads(Answer::Refused(OpenError::Damaged { block: 0, page: 0 })),
-    // Then the seal, before a damaged log page, and before the page of an entry that isn't whole.
+    // The seal comes next, before a damaged log page, and before the page of an entry that isn't whole.
     Line::Anew,
     Line::Put(0, MAP_5),
     Line::Put(0, Put::Told(1, 2, 1)),
     Line::Put(2, Put::Log(0, Change::Page(64, 4, 0))),
     DAMAGED_SEAL,
-    // The totals are those before the log.
+    // The totals are counted before the log.
     Line::Anew,
     Line::Put(4, Put::Data),
     Line::Put(4, Put::Data),
@@ -198,7 +199,8 @@ fn totals_are_compared_between_the_map_pages_and_the_log(rt: HostRuntime) {
 
 // ---- a checkpoint of format 2 over one of format 1
 
-/// Old flash of two addresses, one of them in the log; beside it the pages that a new checkpoint has before its seal.
+/// Old flash with two addresses, one of them in the log. Beside it are the pages that a new checkpoint has before its
+/// seal.
 const MIGRATION: [Line; 14] = [
     Line::Anew,
     Line::Put(4, Put::Data),
@@ -218,7 +220,7 @@ const MIGRATION: [Line; 14] = [
 
 const AFTER_THE_SEAL: [Line; 4] = [
     Line::Loads(Answer::Loaded(1, 1, 2)),
-    // The old log counts no more.
+    // The old log no longer counts.
     Line::Put(2, Put::Old(PageKind::Log, 0, 1, Change::PageOut(5))),
     Line::Loads(Answer::Loaded(1, 1, 2)),
     Line::Lies(6, (4, 1)),
@@ -234,7 +236,7 @@ const TORN_SEAL: [Line; 10] = [
     Line::Put(1, Put::Torn),
     Line::OldCounts(Some((0, 0, 1))),
     Line::Loads(Answer::Loaded(0, 0, 1)),
-    // An erase of the region that is cut leaves nothing that counts.
+    // An erase of the region that is cut leaves no checkpoint that counts.
     Line::Put(1, Put::MixedErase),
     Line::Loads(Answer::Loaded(0, 0, 1)),
 ];

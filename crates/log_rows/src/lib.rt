@@ -1,7 +1,7 @@
-//! Worked examples of the log, of checkpoints and of loading: what stands on the flash after a flush and a commit,
-//! what is left of one that is cut, and what a flash with given pages is loaded as.
+//! Worked examples of the log, of checkpoints and of loading. They show the flash after a flush and a commit, the flash
+//! after one that is cut, and the result of loading a flash with given pages.
 //!
-//! No layer stands on this crate; it has tests alone.
+//! No layer uses this crate; it has only tests.
 #![tactic(auto)]
 
 #[cfg(test)]

@@ -1,4 +1,4 @@
-//! What flash with given pages is loaded as, and which checkpoint on it counts.
+//! The result of loading flash with given pages, and which checkpoint on it counts.
 
 use crate::flash::{At, assert_none, fit, fits_on, geometry};
 use crate::pages::{Change, Counted, NUMBERS, Put, is_counted_of, make};
@@ -14,12 +14,12 @@ use recovery::{Loaded, OpenError, load};
 use std::alloc::Global;
 use std::process::Abort;
 
-/// What loading answers.
+/// The answer of loading.
 #[derive(Clone, Copy)]
 pub(crate) enum Answer {
     /// The region and the era of the checkpoint, and how many addresses are held.
     Loaded(u32, u8, u64),
-    /// Why nothing is loaded.
+    /// Why loading fails.
     Refused(OpenError),
 }
 
@@ -28,31 +28,31 @@ pub(crate) enum Answer {
 pub(crate) enum Line {
     /// The media are blank.
     Anew,
-    /// They are blank but for an empty checkpoint of era 0 in region 0.
+    /// The media are blank, except for an empty checkpoint of era 0 in region 0.
     Sealed,
-    /// The same, and the first pool block has so many pages.
+    /// The same, and the first pool block has this many pages.
     SealedBeside(u32),
-    /// They have these contents in format 1.
+    /// The media have these contents in format 1.
     Old(&'static Old),
-    /// This is the next page of a block, or done to it.
+    /// This is put as the next page of a block, or done to the block.
     Put(u32, Put),
     /// Power goes off.
     Cut,
-    /// The checkpoint that counts then, of format 2.
+    /// The checkpoint that then counts, of format 2.
     Counts(Counted),
-    /// The same of format 1.
+    /// The same for format 1.
     OldCounts(Counted),
-    /// What loading answers then. The plain program answers the same.
+    /// The answer of loading after that. The plain program answers the same.
     Loads(Answer),
-    /// The same, where the flash fails, so that the plain program isn't asked.
+    /// The same if the flash fails, so that the plain program isn't asked.
     Answers(Answer),
-    /// The address is loaded as lying there, dirty.
+    /// The address is loaded with this place, dirty.
     Lies(u64, At),
 }
 
-// ---- what is loaded
+// ---- the entries that are loaded
 
-/// Puts all pages of the flash into a list, those of each erase block in turn. False where that can't be done.
+/// Puts all pages of the flash into a list, the pages of each erase block in turn. False if that can't be done.
 fn put_pages(rig: &mut MemRig, pages: &mut Vec<Page>) -> bool {
     for block in 0..rig.flash_blocks() {
         for page in 0..rig.flash_pages() {
@@ -100,7 +100,7 @@ pub(crate) fn is_same_map(one: &Map, other: &Map) -> bool {
     true
 }
 
-/// Whether the plain program answers what `load` does.
+/// Whether the plain program answers the same as `load`.
 fn is_alike(fast: &Result<Loaded, OpenError>, plain: &PlainLoad) -> bool {
     match fast {
         Ok(loaded) => match plain {
@@ -130,7 +130,7 @@ fn is_answer(told: &Result<Loaded, OpenError>, wanted: Answer) -> bool {
     }
 }
 
-/// Whether the plain program answers the same of these pages.
+/// Whether the plain program answers the same for these pages.
 fn is_plainly(
     alloc: Global,
     geometry: &Geometry,
@@ -143,7 +143,7 @@ fn is_plainly(
     }
 }
 
-/// The same of the pages on the flash.
+/// The same for the pages on the flash.
 pub(crate) fn is_plainly_on(
     alloc: Global,
     rig: &mut MemRig,
@@ -163,7 +163,7 @@ fn loads(alloc: Global, rig: &mut MemRig, geometry: &Geometry, wanted: Answer, b
     is_answer(&fast, wanted) && (!both || is_plainly_on(alloc, rig, geometry, &fast))
 }
 
-/// Whether the address is loaded as lying there, dirty.
+/// Whether the address is loaded with this place, dirty.
 fn lies(alloc: Global, rig: &mut MemRig, geometry: &Geometry, lba: u64, at: At) -> bool {
     if !fits_on(rig, geometry) {
         return false;
@@ -194,7 +194,7 @@ fn seal(alloc: Global, rig: &mut MemRig, geometry: &Geometry) -> bool {
     fit(rig, alloc, geometry).is_ok() && make(rig, 0, Put::Seal(0, 0, 0))
 }
 
-/// Programs so many pages of the first pool block.
+/// Programs this many pages of the first pool block.
 fn fill(rig: &mut MemRig, pages: u32) -> bool {
     for _ in 0..pages {
         if !make(rig, 4, Put::Data) {
@@ -204,7 +204,7 @@ fn fill(rig: &mut MemRig, pages: u32) -> bool {
     true
 }
 
-/// Does what the line says. Whether that can be done, and what it tells is so.
+/// Does what the line says. Answers whether that can be done, and the facts of the line hold.
 fn is_so(alloc: Global, rig: &mut MemRig, geometry: &Geometry, line: Line) -> bool {
     match line {
         Line::Anew => fit(rig, alloc, geometry).is_ok(),
@@ -224,7 +224,7 @@ fn is_so(alloc: Global, rig: &mut MemRig, geometry: &Geometry, line: Line) -> bo
     }
 }
 
-/// Goes through the lines on a rig. Says which is the first that tells what isn't so.
+/// Goes through the lines on a rig. Answers the first line whose facts don't hold.
 pub(crate) fn first_wrong_on(
     alloc: Global,
     rig: &mut MemRig,
@@ -248,7 +248,7 @@ fn first_wrong(alloc: Global, lines: &[Line]) -> Option<usize> {
     first_wrong_on(alloc, &mut rig, &geometry, lines)
 }
 
-/// Goes through the lines on a rig of its own. All that they tell must be so.
+/// Goes through the lines on a rig of its own. All their facts must hold.
 pub(crate) fn assert_all(rt: &(impl Abort + AllocGlobal), lines: &[Line]) {
     assert_none(rt, first_wrong(rt.alloc(), lines));
 }
@@ -414,7 +414,7 @@ const CHECKPOINTS: [Line; 45] = [
     Line::Put(0, Put::One(PageKind::Map, 0, 1, PAGE_5)),
     Line::Put(0, Put::Seal(0, 1, 1)),
     NOT_FORMATTED,
-    // A byte behind.
+    // A byte behind the record.
     Line::Anew,
     Line::Put(4, Put::Data),
     Line::Put(0, Put::Spoilt(PageKind::Map, 0, 0, PAGE_5, 4095)),
@@ -563,11 +563,11 @@ const UNFIT: [Line; 33] = [
     Line::Sealed,
     Line::Put(2, Put::Log(0, Change::Group(16, 4, 1))),
     DAMAGED_LOG,
-    // An address that goes, past the size.
+    // An address past the size, taken out.
     Line::Sealed,
     Line::Put(2, Put::Log(0, Change::PageOut(64))),
     DAMAGED_LOG,
-    // A group that goes, past the size.
+    // A group past the size, taken out.
     Line::Sealed,
     Line::Put(2, Put::Log(0, Change::GroupOut(16))),
     DAMAGED_LOG,
@@ -709,7 +709,7 @@ const NO_POWER: [Line; 8] = [
     Line::Answers(Answer::Refused(OpenError::PowerLost)),
 ];
 
-/// Goes through the lines on flash of which the call with this number fails.
+/// Goes through the lines on flash whose call with this number fails.
 fn first_wrong_failing(
     alloc: Global,
     geometry: &Geometry,
@@ -723,7 +723,7 @@ fn first_wrong_failing(
     first_wrong_on(alloc, &mut rig, geometry, lines)
 }
 
-/// The first call below a number, from another on, that doesn't do what the lines say where it fails.
+/// The first call below a number, from another number on, whose failure makes the lines go otherwise.
 fn first_other_call(alloc: Global, from: u64, end: u64, lines: &[Line]) -> Option<usize> {
     let Some(geometry) = geometry() else {
         return Some(0);
@@ -736,9 +736,9 @@ fn first_other_call(alloc: Global, from: u64, end: u64, lines: &[Line]) -> Optio
     None
 }
 
-// Five pages are programmed. Then `newest` reads the map page and the seal of region 0 and the first
-// page of region 1; the map page is read once more for its records, the log page and the blank one
-// behind it once each, and each of the two places once.
+// Five pages are programmed. Then `newest` reads the map page and the seal of region 0, and the first page of region 1.
+// The map page is read once more for its records. The log page, the blank page behind it, and each of the two places
+// are read once.
 #[test]
 fn each_page_is_read_twice_at_most(rt: HostRuntime) {
     assert_none(&rt, first_other_call(rt.alloc(), 6, 14, &FAULT));

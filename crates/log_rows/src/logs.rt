@@ -26,10 +26,10 @@ const REMOVE_LINE: [u8; 32] =
 
 const LOG_SPARE: [u8; 32] = *b"FTSP\x03\x01\0\0\0\0\0\0\0\0\0\0\0\0\0\0\0\0\0\0\0\0\0\0\0\0\0\0";
 
-/// What is answered to a flush. None where it isn't ready for one.
+/// The answer of a flush. `None` if the log isn't ready for one.
 type Flushed = Option<Result<(), MediaError>>;
 
-/// What can be seen of a log and of its flash.
+/// A fact that can be seen of a log and of its flash.
 #[derive(Clone, Copy)]
 enum Fact {
     /// How many changes are buffered, and how many pages the log has left.
@@ -38,20 +38,20 @@ enum Fact {
     Place(u32, u8),
     /// How many pages were programmed.
     Programs(u64),
-    /// The first log page is as written down, with its spare bytes.
+    /// The first log page is as written by hand, with its spare bytes.
     FirstPage,
     /// No whole page is there.
     NotWhole(At),
-    /// A walk over the log of region 0 and of this era applies so many pages, after which the map has so many
+    /// A walk over the log of region 0 and of this era applies this many pages. After it the map has this many
     /// addresses.
     Walk(u8, u32, u64),
-    /// After it the address lies, dirty, at this page of block 9, or isn't held.
+    /// After such a walk the address lies, dirty, at this page of block 9, or isn't held.
     Lies(u8, u64, Option<u32>),
-    /// It finds the first page damaged.
+    /// Such a walk finds the first page damaged.
     Damaged(u8),
-    /// A walk over the log of format 1 applies so many pages, after which the map has so many addresses.
+    /// A walk over the log of format 1 applies this many pages. After it the map has this many addresses.
     OldWalk(u8, u32, u64),
-    /// It finds the first page damaged.
+    /// Such a walk finds the first page damaged.
     OldDamaged(u8),
 }
 
@@ -64,7 +64,7 @@ enum Line {
     Buffer(Change),
     /// The log is flushed.
     Flush(Flushed),
-    /// It is flushed where a stop tears the page that is programmed.
+    /// The log is flushed, with a stop that tears the page that is programmed.
     FlushTorn(Flushed),
     /// A change gets a page of its own.
     Note(Change),
@@ -72,7 +72,7 @@ enum Line {
     Restart(u32, u8),
     /// This is put as the first page of region 0.
     Put(Put),
-    /// What is seen then.
+    /// The fact that is seen then.
     See(Fact),
 }
 
@@ -90,7 +90,7 @@ fn is_ready(rig: &MemRig, at: Place) -> bool
     }
 }
 
-/// Flushes the log, where there is room and its next page is ready.
+/// Flushes the log, if there is room and its next page is ready.
 fn flush(rig: &mut MemRig, log: &mut OpLog, geometry: &Geometry) -> Flushed
     requires { log.old.geometry ≡ geometry.now }
     ensures { log.new.geometry ≡ log.old.geometry }
@@ -106,14 +106,14 @@ fn flush(rig: &mut MemRig, log: &mut OpLog, geometry: &Geometry) -> Flushed
     Some(log.flush(rig))
 }
 
-/// What a walk over the log found.
+/// The findings of a walk over the log.
 #[derive(Clone, Copy)]
 struct Walked {
     /// How many pages it applied.
     pages: Result<u32, OpenError>,
-    /// How many addresses the map has then.
+    /// How many addresses the map has after it.
     held: u64,
-    /// Where the address lies that was asked for, and whether it is dirty.
+    /// The place of the address that was looked up, and whether it is dirty.
     place: Option<(Place, bool)>,
 }
 
@@ -158,7 +158,7 @@ fn lies(walked: Option<Walked>, wanted: Option<u32>) -> bool {
     }
 }
 
-/// Whether a page has a header, two records, and zeros behind them.
+/// Whether a page has the header, the two records, and zeros behind them.
 fn is_as_written_down(page: &Block) -> bool {
     page.0[..32] == LOG_LINE[..]
         && page.0[32..64] == SET_PAGE_LINE[..]
@@ -166,7 +166,7 @@ fn is_as_written_down(page: &Block) -> bool {
         && page.0[96..].iter().all(|byte| *byte == 0)
 }
 
-/// Whether the first log page is as written down, with its spare bytes.
+/// Whether the first log page is as written by hand, with its spare bytes.
 fn has_first_page(rig: &mut MemRig) -> bool {
     let mut page = zero_block();
     let mut spare = Spare([0; 32]);
@@ -184,7 +184,7 @@ fn is_damaged(walked: Option<Walked>) -> bool {
     }
 }
 
-/// What a walk over the log of a format and an era finds.
+/// The findings of a walk over the log of a format and an era.
 fn walk_of(
     alloc: Global,
     rig: &mut MemRig,
@@ -195,7 +195,7 @@ fn walk_of(
     walk(rig, alloc, geometry, Stamp { format, era }, 0)
 }
 
-/// Whether the address lies so after a walk over the log of this era.
+/// Whether the address lies there after a walk over the log of this era.
 fn lies_in(
     alloc: Global,
     rig: &mut MemRig,
@@ -231,7 +231,7 @@ fn holds(alloc: Global, rig: &mut MemRig, log: &OpLog, geometry: &Geometry, fact
 
 // ---- the lines
 
-/// Buffers a change. False where the log can't have it.
+/// Buffers a change. False if the log can't have it.
 fn buffer(log: &mut OpLog, geometry: &Geometry, change: Change) -> bool
     requires { log.old.geometry ≡ geometry.now }
     ensures { log.new.geometry ≡ log.old.geometry }
@@ -244,7 +244,7 @@ fn buffer(log: &mut OpLog, geometry: &Geometry, change: Change) -> bool
     true
 }
 
-/// Flushes the log, where a stop tears the page that is programmed.
+/// Flushes the log, with a stop that tears the page that is programmed.
 fn flush_torn(rig: &mut MemRig, log: &mut OpLog, geometry: &Geometry) -> Flushed
     requires { log.old.geometry ≡ geometry.now }
     ensures { log.new.geometry ≡ log.old.geometry }
@@ -267,7 +267,7 @@ fn restart(log: &mut OpLog, region: u32, era: u8) -> bool
     true
 }
 
-/// Does what the line says. Whether that can be done, and what it tells is so.
+/// Does what the line says. Answers whether that can be done, and the facts of the line hold.
 fn is_so(alloc: Global, rig: &mut MemRig, log: &mut OpLog, geometry: &Geometry, line: Line) -> bool
     requires { log.old.geometry ≡ geometry.now }
     ensures { log.new.geometry ≡ log.old.geometry }
@@ -302,8 +302,8 @@ fn first_wrong_of(
     None
 }
 
-/// Goes through the lines on a rig, from a log in region 0, of era 1, on. Says which is the first that tells what
-/// isn't so.
+/// Goes through the lines on a rig, beginning with a log in region 0, of era 1. Answers the first line whose facts
+/// don't hold.
 fn first_wrong_on(
     alloc: Global,
     rig: &mut MemRig,
@@ -328,7 +328,7 @@ fn first_wrong(alloc: Global, lines: &[Line]) -> Option<usize> {
     first_wrong_on(alloc, &mut rig, &geometry, lines)
 }
 
-/// Goes through the lines. All that they tell must be so.
+/// Goes through the lines. All their facts must hold.
 fn assert_all(rt: &(impl Abort + AllocGlobal), lines: &[Line]) {
     assert_none(rt, first_wrong(rt.alloc(), lines));
 }
@@ -436,7 +436,7 @@ const OTHER_FORMAT: [Line; 15] = [
     Line::Put(Put::Old(PageKind::Log, 1, 1, Change::Page(6, 9, 1))),
     Line::See(Fact::Walk(1, 1, 1)),
     Line::See(Fact::OldWalk(1, 0, 0)),
-    // An address past the size damages the log of its own format alone.
+    // An address past the size damages only the log of its own format.
     Line::Anew,
     Line::Put(Put::Old(PageKind::Log, 1, 0, Change::Page(64, 9, 0))),
     Line::See(Fact::OldDamaged(1)),

@@ -1,5 +1,5 @@
-//! Maps at random as checkpoints of format 2: what is loaded is the map, and with a bit of a page turned round it is what
-//! the plain program says.
+//! Random maps as checkpoints of format 2. Loading gives the map. With a bit of a page flipped, it gives the same
+//! answer as the plain program.
 
 use crate::flash::{assert_none, fit, fits_on, program_next};
 use crate::loads::{is_plainly_on, is_same_map};
@@ -63,7 +63,7 @@ fn change(geometry: &Geometry, words: &mut Lcg64Xsh32) -> Record {
     }
 }
 
-/// Makes a change where it fits. False where there is no memory.
+/// Makes a change, if it fits. False if there is no memory.
 fn make_change(map: &mut Map, change: &Record) -> bool {
     if map.reserve(1, 1).is_err() {
         return false;
@@ -74,7 +74,7 @@ fn make_change(map: &mut Map, change: &Record) -> bool {
     true
 }
 
-/// A map after so many changes, of those that fit.
+/// A map after this many changes were drawn, and those that fit were made.
 fn drawn(alloc: Global, geometry: &Geometry, words: &mut Lcg64Xsh32, changes: u32) -> Option<Map> {
     let Ok(mut map) = Map::new(alloc, geometry) else {
         return None;
@@ -110,7 +110,7 @@ fn map_page(geometry: &Geometry, map: &Map, i: u32) -> Option<Block> {
     Some(spelled_page(&header, geometry.p, &part[..count as usize]))
 }
 
-/// The seal over so many map pages.
+/// The seal over this many map pages.
 fn seal_page(geometry: &Geometry, map: &Map, pages: u32) -> Block {
     let header = Header {
         format: 2,
@@ -133,7 +133,7 @@ fn seal_page(geometry: &Geometry, map: &Map, pages: u32) -> Block {
     spelled_seal(&header, &seal, &totals)
 }
 
-/// A page of the checkpoint that has so many map pages.
+/// A page of the checkpoint that has this many map pages.
 fn page_of(geometry: &Geometry, map: &Map, pages: u32, i: u32) -> Option<Block> {
     if i < pages {
         return map_page(geometry, map, i);
@@ -144,7 +144,7 @@ fn page_of(geometry: &Geometry, map: &Map, pages: u32, i: u32) -> Option<Block> 
 /// A bit of a page of a checkpoint: the page, the byte and the value of the bit.
 type Turned = (u32, usize, u8);
 
-/// Programs the checkpoint of a map, where a bit may be turned round.
+/// Programs the checkpoint of a map, in which a bit may be flipped.
 fn put_checkpoint(rig: &mut MemRig, geometry: &Geometry, map: &Map, turned: Turned) -> bool {
     let pages = pages_of(geometry, map);
     for i in 0..=pages {
@@ -195,7 +195,7 @@ fn put(alloc: Global, rig: &mut MemRig, geometry: &Geometry, map: &Map, turned: 
         && put_checkpoint(rig, geometry, map, turned)
 }
 
-// ---- what is loaded
+// ---- loading
 
 /// Whether the map is loaded, and the plain program loads the same.
 fn is_loaded(alloc: Global, rig: &mut MemRig, geometry: &Geometry, map: &Map) -> bool {
@@ -210,7 +210,7 @@ fn is_loaded(alloc: Global, rig: &mut MemRig, geometry: &Geometry, map: &Map) ->
     same && is_plainly_on(alloc, rig, geometry, &fast)
 }
 
-/// Whether both answer the same, whatever it is.
+/// Whether both programs answer the same, whatever it is.
 fn is_alike(alloc: Global, rig: &mut MemRig, geometry: &Geometry) -> bool {
     if !fits_on(rig, geometry) {
         return false;
@@ -219,7 +219,7 @@ fn is_alike(alloc: Global, rig: &mut MemRig, geometry: &Geometry) -> bool {
     is_plainly_on(alloc, rig, geometry, &fast)
 }
 
-/// A bit of a checkpoint of so many map pages: mostly in front.
+/// A bit of a checkpoint of this many map pages, mostly in front.
 fn turned(words: &mut Lcg64Xsh32, pages: u32) -> Turned {
     let end = 1_u32 << (5 + words.next_word() % 8);
     (
@@ -229,10 +229,10 @@ fn turned(words: &mut Lcg64Xsh32, pages: u32) -> Turned {
     )
 }
 
-/// No bit is turned.
+/// No bit is flipped.
 const NONE: Turned = (0, 0, 0);
 
-/// Whether a map at random is loaded, and the plain program answers the same after a bit was turned round.
+/// Whether a random map is loaded, and the plain program answers the same after a bit was flipped.
 fn is_so(alloc: Global, geometry: &Geometry, words: &mut Lcg64Xsh32) -> bool {
     let changes = geometry.p.saturating_mul(3);
     let Some(map) = drawn(alloc, geometry, words, changes) else {
@@ -246,7 +246,7 @@ fn is_so(alloc: Global, geometry: &Geometry, words: &mut Lcg64Xsh32) -> bool {
         && is_alike(alloc, &mut rig, geometry)
 }
 
-/// The first of so many maps that isn't so.
+/// The first of `maps` random maps with which this isn't so.
 fn first_other(alloc: Global, p: u32, maps: usize) -> Option<usize> {
     let Ok(geometry) = Geometry::new(p, 2, 2, 1, u64::from(p).saturating_mul(16)) else {
         return Some(0);

@@ -11,7 +11,7 @@ use mem_rig::MemRig;
 use plain_format::{spelled_page, spelled_seal};
 use record_codec::{Header, PageKind, Seal, Totals};
 
-/// What a seal says of the numbers of its cache.
+/// The numbers of the cache in a seal.
 pub(crate) const NUMBERS: Seal = Seal {
     p: 4,
     c: 2,
@@ -30,14 +30,14 @@ pub(crate) enum Change {
     Page(u64, u32, u32),
     /// The group has this data block, with these pages, all clean.
     Group(u64, u32, u128),
-    /// The address is held no more.
+    /// The address is no longer held.
     PageOut(u64),
-    /// The group is held no more.
+    /// The group is no longer held.
     GroupOut(u64),
 }
 
-/// What is programmed as the next page of an erase block, or done to the whole block. Pages have format 2, if it isn't
-/// said that they are old.
+/// A page that is programmed as the next page of an erase block, or an action on the whole block. Pages have format 2,
+/// unless they are called old.
 #[derive(Clone, Copy)]
 pub(crate) enum Put {
     /// A page of one record: its kind, its era, its place in the sequence, and the record.
@@ -50,23 +50,23 @@ pub(crate) enum Put {
     Two(u32, Change, Change),
     /// A log page of era 0 with one record.
     Log(u32, Change),
-    /// A seal of an era over so many map pages with so many records, made for `NUMBERS`. It says that there are as
-    /// many entries, all of them dirty.
+    /// A seal of an era over this many map pages with this many records, made for `NUMBERS`. It says that there are
+    /// equally many entries, all of them dirty.
     Seal(u8, u32, u32),
-    /// The same in format 1, which says nothing of entries.
+    /// The same in format 1, which gives no number of entries.
     OldSeal(u8, u32, u32),
-    /// A seal of era 0 over one map page with so many records, which says that there are so many entries, and so many
-    /// dirty ones.
+    /// A seal of era 0 over one map page with this many records. It says that there are this many entries, and this
+    /// many dirty ones.
     Told(u32, u64, u64),
     /// A page with the block of an address.
     Data,
     /// A program that is cut and leaves the page torn.
     Torn,
-    /// An erase that is cut, and leaves page 0 and 3 as before, page 1 blank and page 2 torn.
+    /// An erase that is cut, and leaves pages 0 and 3 unchanged, page 1 blank and page 2 torn.
     MixedErase,
 }
 
-/// Whether this checkpoint counts, of this format.
+/// Whether this checkpoint, of this format, is the one that counts.
 pub(crate) fn is_counted_of(format: u8, found: Option<Newest>, wanted: Counted) -> bool {
     match (found, wanted) {
         (Some(one), Some(counted)) => {
@@ -80,12 +80,12 @@ pub(crate) fn is_counted_of(format: u8, found: Option<Newest>, wanted: Counted) 
     }
 }
 
-/// The same of format 2.
+/// The same for format 2.
 pub(crate) fn is_counted(found: Option<Newest>, wanted: Counted) -> bool {
     is_counted_of(2, found, wanted)
 }
 
-/// The record that says so.
+/// The record of this change.
 pub(crate) fn record_of(change: Change) -> Record {
     match change {
         Change::Page(lba, block, page) => Record::SetPage {
@@ -143,7 +143,7 @@ fn page_of_two(sequence: u32, first: Change, second: Change) -> Block {
     spelled_page(&header, NUMBERS.p, changes.as_slice())
 }
 
-/// A seal over so many map pages with so many records.
+/// A seal over this many map pages with this many records.
 fn seal_of(format: u8, era: u8, pages: u32, records: u32, entries: u64, dirty: u64) -> Block {
     let header = Header {
         format,
@@ -155,7 +155,7 @@ fn seal_of(format: u8, era: u8, pages: u32, records: u32, entries: u64, dirty: u
     spelled_seal(&header, &NUMBERS, &Totals { entries, dirty })
 }
 
-/// The page with a byte that isn't zero at this place, where there is one.
+/// The page with a byte that isn't zero at this place, if the page has the place.
 fn spoilt(page: Block, at: usize) -> Block {
     let mut page = page;
     if at < 4096 {
@@ -171,7 +171,7 @@ fn data() -> Block {
     block
 }
 
-/// What is programmed: zeros where the bytes don't matter.
+/// The bytes that are programmed: zeros if the bytes don't matter.
 fn bytes_of(what: Put) -> Block {
     match what {
         Put::One(kind, era, sequence, change) => page_of(2, kind, era, sequence, change),
@@ -192,7 +192,7 @@ fn bytes_of(what: Put) -> Block {
     }
 }
 
-/// Does one thing to a block. False where it can't be done.
+/// Does this to a block. False if it can't be done.
 pub(crate) fn make(rig: &mut MemRig, block: u32, what: Put) -> bool {
     let bytes = bytes_of(what);
     match what {

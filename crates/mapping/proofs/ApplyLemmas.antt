@@ -1,4 +1,4 @@
--- What a change of one group makes of what is kept beside the entries.
+-- How a change of one group changes the facts that are kept beside the entries.
 use Rattle.std.proofs.Common.{◌≡◌, ◌↔◌, ℕ, ◌+◌, ◌≤◌, Bool, true, cond, Option, IfSome, IfNone, is_some, IsTrue, sym, ◌∙◌, ap, subst}
 use Rattle.std.specs.FinMap.{get}
 use Rattle.ft_base.specs.declared.geometry.Geometry.{Geometry}
@@ -38,7 +38,7 @@ module _ (g : Geometry) (m n : Entries) (group : ℕ) (before now : Option Block
   blocks_recounted had has k x was here is sum = recounted had has k (data_block_count g m) (data_block_count g n) x is
       (group_counts g BlockMapped group m n had has change.others (has_data_block g m group before had was change.had_block change.had_none) (has_data_block g n group now has here change.has_block change.has_none)) sum
 
--- a group that counts is one at least
+-- if a group counts, the count is at least 1
 pub some_blocks : (g h : Geometry) (m : Entries) (group : ℕ) (before : Option BlockPages) (had : Bool) (k : ℕ) → h ≡ g → had ≡ is_some before → IfSome before (IsDataBlock h m group) → IfNone before (chosen_of Mapped h m group ≡ 0) → k ≡ data_block_count g m → (had ≡ true → 1 ≤ k)
 some_blocks g h m group before had k same was some none is t = counts_some g BlockMapped m group k had is
     (has_data_block g m group before had was (subst (λ (x : Geometry). IfSome before (IsDataBlock x m group)) same some) (subst (λ (x : Geometry). IfNone before (chosen_of Mapped x m group ≡ 0)) same none)).0 t

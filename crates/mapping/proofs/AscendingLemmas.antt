@@ -26,7 +26,7 @@ keys_rise (e ∷ es) (suc i) (suc j) d sorted lt within = keys_rise es i j d (an
 abbrev pub spare_item : ℕ × Entry
 spare_item = (0, record { place = record { block = 0; page = 0 }; dirty = false; block_mapped = false })
 
--- the entry at a place of the list is that of its address
+-- the entry at a place of the list is the entry of its address
 pub get_here : (es : Items) (i : ℕ) (d : ℕ × Entry) → Ascends es → i < length es → get {R = nat_cmp} (from_entries es) (get_or es i d).0 ≡ Some (get_or es i d).1
 get_here es i d up within = get-from_entries nat_cmp_total es (get_or es i d).0 ∙ here es i d up.sorted within
   where

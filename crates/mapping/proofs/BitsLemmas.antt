@@ -44,7 +44,7 @@ top_bit true zero = refl
 top_bit true (suc k) = ap (λ n. n == 1) (bit_at_above 1 1 (suc k) (omega arith) (omega arith)) ∙ sym (ne_eqb (suc k) 0 (λ e. absurd (omega arith)))
 top_bit false k = ap (λ n. n == 1) (bit_at-zero k)
 
--- a page is in the set exactly where it is below n and passes
+-- a page is in the set exactly when it is below n and passes
 pub bit_of_set : (test : ℕ → Bool) (n i : ℕ) → has_bit (set_of test n) i ≡ (nat_lt i n && test i)
 bit_of_set test zero i = ap (λ k. k == 1) (bit_at-zero i) ∙ ap (λ b. b && test i) (sym (le-ltb i 0 (omega arith)))
 bit_of_set test (suc n) i = elim (cases_lt i n) [
@@ -84,7 +84,7 @@ chosen_beyond g m choice group is_map over = sym (set_of_none (λ i. is_chosen c
   | inr f ↦ f
 ]))
 
--- each dirty page of a data block is a present one
+-- each dirty page of a data block is present
 pub dirty_within : (g : Geometry) (m : Entries) (group page : ℕ) → has_bit (chosen_of MappedDirty g m group) page ≡ true → has_bit (chosen_of Mapped g m group) page ≡ true
 dirty_within g m group page t =
     let p = and_parts (nat_lt page g.p) (is_chosen MappedDirty (get m (group * g.p + page))) (sym (bit_of_set (λ i. is_chosen MappedDirty (get m (group * g.p + i))) g.p page) ∙ t) in

@@ -1,4 +1,4 @@
--- What a change of one group makes of the list of candidates.
+-- How a change of one group changes the list of candidates.
 use Rattle.std.proofs.Common.{◌≡◌, ℕ, zero, suc, ◌+◌, ◌-◌, ◌*◌, ◌/◌, ◌^◌, ◌<◌, ◌≤◌, ◌⊎◌, Bool, true, false, cond, List, length, get_or, set, replicate, Option, Some, None, IfSome, IfNone, nat_cmp, inl, inr, refl, sym, ◌∙◌, ap, subst, arith}
 use Rattle.std.specs.FinMap.{get, get-empty}
 use Rattle.std.proofs.lemmas.Bool.{cases_Bool, cases_eq, both_ways}
@@ -18,9 +18,9 @@ use Rattle.mapping.proofs.NumbersLemmas.{pool_end}
 use Rattle.mapping.proofs.ChosenLemmas.{chosen_none, stands_some, pages_held-count, page_count-most}
 use Rattle.mapping.proofs.SeekingLemmas.{none_some}
 
--- ---- that of no entries
+-- ---- the candidates of no entries
 
--- where no data block may give way
+-- the count of an erase block that may not give way
 abbrev nothing : ℕ
 nothing = 65535
 
@@ -38,7 +38,7 @@ no_candidates g counts is = record {
 
 -- ---- the erase block of a data block
 
--- it is one of the pool
+-- the erase block is one of the pool
 pub in_pool : (g : Geometry) (m : Entries) (group : ℕ) (b : BlockPages) → IsMap g m → IsDataBlock g m group b → StandsInPool g b
 in_pool g m group b is_map own_block =
     let x = stands_some g m group b own_block in
@@ -56,7 +56,7 @@ place_below g block above below = omega (arith, pool_end g)
 same_block : (first a b : ℕ) → first ≤ a → first ≤ b → a - first ≡ b - first → a ≡ b
 same_block first a b low low' same = omega arith
 
--- no other group has it
+-- no other group has this erase block
 of_others : (g : Geometry) (m : Entries) (group : ℕ) (b : BlockPages) → IsMap g m → IsDataBlock g m group b → (k block : ℕ) → (k ≡ group → ⊥) → IsGroupIn g m block k → block - first_pool g ≡ b.block - first_pool g → ⊥
 of_others g m group b is_map own_block k block apart x same =
     let y = stands_some g m group b own_block in
@@ -66,7 +66,7 @@ of_others g m group b is_map own_block k block apart x same =
     let own = is_map.own_block y.0 x.0 y.1 x.1 y.2 x.2 y.4 (x.4 ∙ same_block (first_pool g) block b.block low low' same ∙ sym here) in
     apart (sym x.5 ∙ own.same_group ∙ y.3)
 
--- its group has no other
+-- the group has no other erase block
 not_in : (g : Geometry) (m : Entries) (group : ℕ) (b : BlockPages) → IsDataBlock g m group b → (i : ℕ) → (i ≡ b.block - first_pool g → ⊥) → IsGroupIn g m (first_pool g + i) group → ⊥
 not_in g m group b own_block i other x = other (place (first_pool g) i b.block (sym x.4 ∙ own_block.stands x.0 x.1 x.2 x.3 x.5))
   where
@@ -107,13 +107,13 @@ module _ (g : Geometry) (m n : Entries) (group : ℕ) (before now : Option Block
   group_was : (k block : ℕ) → (k ≡ group → ⊥) → IsGroupIn g n block k → IsGroupIn g m block k
   group_was k block apart x = (x.0, x.1, back x.0 x.1 k apart x.5 x.2, x.3, x.4, x.5)
 
-  -- the list is right of all other groups, and tells nothing of this one
+  -- the list is right for all other groups, and says nothing of this one
   pub record AreOthers (counts : List ℕ) : Type 0 where
     pub long : length counts ≡ g.c + g.l + 1
     pub counted : (i : ℕ) → i < length counts → (get_or counts i 0 ≡ 65535) ⊎ IsCandidateIn g n (first_pool g + i) (get_or counts i 0)
     pub all : (k block : ℕ) → (k ≡ group → ⊥) → IsCandidate g n k → IsGroupIn g n block k → get_or counts (block - first_pool g) 0 ≡ pages_held g n k
 
-  -- a count that was not of this group
+  -- the count of another group's block
   kept : (old : List ℕ) → AreCandidates g m old → (i : ℕ) → i < length old → (IsGroupIn g m (first_pool g + i) group → ⊥) → (get_or old i 0 ≡ 65535) ⊎ IsCandidateIn g n (first_pool g + i) (get_or old i 0)
   kept old all i low free = elim (all.counted i low) [
     | inl none ↦ inl none
@@ -152,7 +152,7 @@ module _ (g : Geometry) (m n : Entries) (group : ℕ) (before now : Option Block
             all = λ k block apart x y. get_or-set_other old (b.block - first_pool g) (block - first_pool g) 65535 0 (of_others g m group b change.old_map some k block apart (group_was k block apart y)) ∙ held old all k block apart x y;
           })
 
-  -- where the group may not give way
+  -- if the group may not give way
   pub noted_none : (counts : List ℕ) → AreOthers counts → (IsCandidate g n group → ⊥) → AreCandidates g n counts
   noted_none counts others never = record {
     long = others.long;
@@ -172,7 +172,7 @@ module _ (g : Geometry) (m n : Entries) (group : ℕ) (before now : Option Block
       let y = x.some in
       both_ways y.1.block_mapped (chosen_none g n group Mapped empty y.0 y.1 y.2 y.3) y.4
 
-  -- where it may
+  -- if the group may give way
   is_clean : dirty ≡ false → IsClean g n group
   is_clean f a e is in_group = elim (cases_Bool e.dirty) [
     | inl t ↦ absurd (both_ways dirty f (change.is_dirty.1 (a, in_group, (e, is, t))))

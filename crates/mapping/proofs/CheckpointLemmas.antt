@@ -13,7 +13,7 @@ use Rattle.mapping.specs.Checkpoint.{HasWindow}
 pub window_none : (from : ℕ) (out : List Record) → HasWindow [] from out
 window_none from out = record { at = λ j d low high. absurd (omega arith) }
 
--- records that the window hasn't
+-- records that lie outside of the window
 pub skipped : (records more out : List Record) (from : ℕ) → (length records + length more ≤ from) ⊎ (from + length out ≤ length records) → HasWindow records from out → HasWindow (records ++ more) from out
 skipped records more out from past has = record {
   at = λ j d low within room.

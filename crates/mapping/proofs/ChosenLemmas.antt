@@ -24,7 +24,7 @@ use Rattle.mapping.specs.Packed.{block_record}
 use Rattle.mapping.specs.Seeking.{HasMarkIn}
 use Rattle.mapping.proofs.BitsLemmas.{set_below, bit_of_set}
 
--- the pages of an erase block are those that a record of format 2 spells
+-- the pages of an erase block are the pages that a record of format 2 spells
 pub pages_spelled : (g : Geometry) → g.p ≤ page_limit (is_wide 2 g.p)
 pages_spelled g = elim (cases_lt 64 g.p) [
   | inl many ↦ subst (λ wide. g.p ≤ page_limit wide) (sym (lt-ltb 64 g.p many)) g.in_range.p_high
@@ -77,7 +77,7 @@ page_count-some (suc width) set page within here = elim (cases_Bool (has_page se
       | inr high ↦ let same : page ≡ width = omega arith in absurd (both_ways (has_page set width) f (ap (has_page set) (sym same) ∙ here))
     ]
 
--- ---- the block that the pages of a group stand in
+-- ---- the data block that has the pages of a group
 
 pub block_is : (m : Entries) (first n i : ℕ) (e : Entry) → i < n → get m (first + i) ≡ Some e → e.block_mapped ≡ true → ((j : ℕ) (f : Entry) → j < n → get m (first + j) ≡ Some f → f.block_mapped ≡ true → f.place.block ≡ e.place.block) → block_below m first n ≡ e.place.block
 block_is m first zero i e low at mapped same = absurd (omega arith)
@@ -116,7 +116,7 @@ module _ (g : Geometry) (m : Entries) (group : ℕ) where
       bit_of_set (λ i. is_chosen choice (get m (group * g.p + i))) g.p (a % g.p)
       ∙ and_from _ _ (lt-ltb _ _ within) (ap (λ k. is_chosen choice (get m k)) address ∙ ap (is_chosen choice) there ∙ t)
 
-  -- of an empty set none is chosen
+  -- if the set is empty, no address is chosen
   pub chosen_none : (choice : Choice) → chosen_of choice g m group ≡ 0 → (a : ℕ) (e : Entry) → get m a ≡ Some e → a / g.p ≡ group → is_chosen choice (Some e) ≡ false
   chosen_none choice empty a e there in_group = elim (cases_Bool (is_chosen choice (Some e))) [
     | inl t ↦
@@ -126,7 +126,7 @@ module _ (g : Geometry) (m : Entries) (group : ℕ) where
     | inr f ↦ f
   ]
 
-  -- of another set some address is
+  -- if the set isn't empty, some address is chosen
   pub chosen_some : (choice : Choice) → (chosen_of choice g m group ≡ 0 → ⊥) → (a : ℕ) × (e : Entry) × (get m a ≡ Some e) × (a / g.p ≡ group) × (is_chosen choice (Some e) ≡ true)
   chosen_some choice some =
       let page = some_page (λ i. is_chosen choice (get m (group * g.p + i))) g.p some in
@@ -148,7 +148,7 @@ module _ (g : Geometry) (m : Entries) (group : ℕ) where
       wider : (limit : ℕ) → g.p ≤ limit → {n : ℕ} → n < 2 ^ g.p → n < 2 ^ limit
       wider limit within small = let more : 2 ^ g.p ≤ 2 ^ limit = pow-le-pow_right (omega arith) within in omega arith
 
-  -- the pages of a set of 128 are those of the group
+  -- the pages of a set of 128 are the pages of the group
   pub pages_held-count : (set n : ℕ) → set ≡ chosen_of Mapped g m group → n ≡ page_count 128 set → n ≡ pages_held g m group
   pages_held-count set n is counted =
       let pages = chosen_of Mapped g m group in
@@ -171,12 +171,12 @@ module _ (g : Geometry) (m : Entries) (group : ℕ) where
   pub stands_some : (b : BlockPages) → IsDataBlock g m group b → (a : ℕ) × (e : Entry) × (get m a ≡ Some e) × (a / g.p ≡ group) × (e.block_mapped ≡ true)
   stands_some b block = chosen_some Mapped (λ none. let some = block.some in let is = block.present in omega arith)
 
-  -- whether it has one
+  -- whether the group has a data block
   pub has_data_block : (o : Option BlockPages) (has : Bool) → has ≡ is_some o → IfSome o (IsDataBlock g m group) → IfNone o (chosen_of Mapped g m group ≡ 0) → (has ≡ true → HasMarkIn g m BlockMapped group) × (HasMarkIn g m BlockMapped group → has ≡ true)
   has_data_block None has is some none = (λ t. absurd (both_ways has is t), λ x. absurd (both_ways x.2.0.block_mapped (chosen_none Mapped none x.0 x.2.0 x.2.1 x.1) x.2.2))
   has_data_block (Some b) has is some none = (λ t. let x = stands_some b some in (x.0, x.3, (x.1, x.2, x.4)), λ x. is)
 
-  -- what sets it
+  -- the record that sets the data block
   pub set_group_is : (b : BlockPages) → IsDataBlock g m group b → set_group_of g m group ≡ block_record (group, b)
   set_group_is b block =
       let x = stands_some b block in

@@ -1,4 +1,4 @@
--- A map has no more page-mapped entries than its log blocks have pages; and its buckets stay few.
+-- A map has at most as many page-mapped entries as its log blocks have pages; and its buckets stay few.
 use Rattle.std.proofs.Common.{◌≡◌, ℕ, zero, suc, ◌+◌, ◌*◌, ◌^◌, ◌<◌, ◌≤◌, ◌==◌, ◌||◌, Bool, true, false, cond, List, [], ◌∷◌, ◌++◌, length, map, filter, Some, sym, ◌∙◌, ap, ap₂, subst, arith}
 use Rattle.std.proofs.Common.{◌⊎◌, max, inl, inr, nat_cmp, nat_le, eqb-true, length-append, pow-suc}
 use Rattle.std.proofs.Math.Nat.{le-max_left, le-max_right, max-le}
@@ -122,7 +122,7 @@ module _ (g : Geometry) (m : Entries) (is_map : IsMap g m) where
       let block : member x.0.1.place.block (blocks_with page_mapped m) ≡ true = member_once x.0.1.place.block (numbers (λ x. x.1.place.block) page_mapped (entries m)) ∙ member_from (λ x. x.1.place.block) page_mapped m x.0.0 x.0.1 x.1 x.2 in
       ap (λ k. member k (pages_of g.p (blocks_with page_mapped m))) (sym x.3) ∙ member_pages g.p (blocks_with page_mapped m) x.0.1.place.block x.0.1.place.page block (is_map.in_pool x.0.0 x.0.1 x.1).page
 
-  -- as many page-mapped entries as the log blocks have pages
+  -- at most as many page-mapped entries as the log blocks have pages
   pub pages_few : page_mapped_count m ≤ g.l * g.p
   pages_few =
       let all : length (numbers (place_number g.p) page_mapped (entries m)) ≡ length (filter (λ x. page_mapped x.1) (entries m)) = length-map (filter (λ x. page_mapped x.1) (entries m)) (place_number g.p) in
@@ -135,7 +135,7 @@ module _ (g : Geometry) (m : Entries) (is_map : IsMap g m) where
 
 -- ---- buckets
 
--- a table that doubled starts from what it was, or from 32 buckets; and doubled no further than needed
+-- a table that doubled began with its old buckets, or with 32, and doubled no oftener than needed
 pub start_or_few : (need narrow wide : ℕ) → IsDoubledFor need narrow wide → (wide ≡ cond (nat_le 32 narrow) narrow 32) ⊎ (3 * wide < 8 * need)
 start_or_few need narrow wide doubled = by_doublings doubled.doublings doubled.is doubled.needed
   where
@@ -153,7 +153,7 @@ start_or_few need narrow wide doubled = by_doublings doubled.doublings doubled.i
         let twice = times_two (cond (nat_le 32 narrow) narrow 32) j in
         inr (omega (arith, is, last, twice))
 
--- so it stays few
+-- so its buckets stay few
 few_doubled : (need most narrow wide : ℕ) → need ≤ most → IsDoubledFor need narrow wide → AreFewFor most narrow → AreFewFor most wide
 few_doubled need most narrow wide enough doubled few = elim (start_or_few need narrow wide doubled) [
   | inl is ↦ subst (AreFewFor most) (sym is) (start_few (nat_le 32 narrow))
@@ -164,7 +164,7 @@ few_doubled need most narrow wide enough doubled few = elim (start_or_few need n
     start_few true = few
     start_few false = inl (omega arith)
 
--- so many are few: the records of a page, and the pages of an erase block
+-- the records of a page, and the pages of an erase block, are few
 pub few_of_page : (g : Geometry) (n : ℕ) → n ≤ most_page_records → n ≤ most_groups g
 few_of_page g n few = omega (arith, few, le-max_left most_page_records g.p)
 
@@ -172,11 +172,11 @@ pub few_of_block : (g : Geometry) → g.p ≤ most_groups g
 few_of_block g = le-max_right most_page_records g.p
 
 module _ (g : Geometry) (m : Entries) (is_map : IsMap g m) (more old new : ℕ) where
-  -- the buckets of the page-mapped addresses after a reservation for so many more
+  -- the buckets of the page-mapped addresses after a reservation for `more` of them
   pub pages_grown : more ≤ most_page_records → IsDoubledFor (page_mapped_count m + more) old new → AreFewFor (g.l * g.p + most_page_records) old → AreFewFor (g.l * g.p + most_page_records) new
   pages_grown few = let held = pages_few g m is_map in few_doubled (page_mapped_count m + more) (g.l * g.p + most_page_records) old new (omega (arith, few))
 
-  -- and those of the groups
+  -- the buckets of the groups after a reservation for `more` of them
   pub groups_grown : more ≤ most_groups g → IsDoubledFor (data_block_count g m + more) old new → AreFewFor (g.c + most_groups g) old → AreFewFor (g.c + most_groups g) new
   groups_grown few = let held = is_map.data_blocks in few_doubled (data_block_count g m + more) (g.c + most_groups g) old new (omega (arith, few))
 
@@ -184,7 +184,7 @@ module _ (g : Geometry) (m : Entries) (is_map : IsMap g m) (more old new : ℕ) 
 pub few_new : (m : MapValue) → m.spare_pages ≡ 0 → m.spare_groups ≡ 0 → m.buckets ≡ 0 → m.group_buckets ≡ 0 → HasFewBuckets m
 few_new m pages groups buckets group_buckets = record { pages = omega arith; groups = omega arith; buckets = inl (omega arith); group_buckets = inl (omega arith) }
 
--- where the buckets stay, and the room doesn't grow, they stay few
+-- if the numbers of buckets stay, and the room doesn't grow, the buckets stay few
 pub few_kept : (old new : MapValue) → new.geometry ≡ old.geometry → HasNoMoreRoom old new → KeepsBuckets old new → HasFewBuckets old → HasFewBuckets new
 few_kept old new same room kept few =
     let p = few.pages in
@@ -198,7 +198,7 @@ few_kept old new same room kept few =
           (subst (λ (g : Geometry). AreFewFor (g.c + most_groups g) old.group_buckets) (sym same) few.group_buckets);
     }
 
--- where they grew for few, they are few
+-- if the buckets grew for few items, they are few
 pub few_grown : (old new : MapValue) (p q : ℕ) → IsMap old.geometry old.entries → new.geometry ≡ old.geometry → p ≤ most_page_records → q ≤ most_groups old.geometry
     → new.spare_pages ≤ most_page_records → new.spare_groups ≤ most_groups old.geometry
     → GrewForPages old new p → GrewForGroups old new q → HasFewBuckets old → HasFewBuckets new
@@ -223,7 +223,7 @@ keeps_then a b c first then = record { is_map = λ is. then.is_map (first.is_map
 pub is_map_same : (old new : MapValue) → new.geometry ≡ old.geometry → new.entries ≡ old.entries → IsMap old.geometry old.entries → IsMap new.geometry new.entries
 is_map_same old new same entries is = subst (λ (g : Geometry). IsMap g new.entries) (sym same) (subst (λ m. IsMap old.geometry m) (sym entries) is)
 
--- what a reservation of room for so many pages and groups leaves
+-- a map after a reservation of room for p pages and q groups
 pub record IsReserved (p q : ℕ) (old new : MapValue) : Type 0 where
   pub geometry : new.geometry ≡ old.geometry
   pub entries : new.entries ≡ old.entries
@@ -241,7 +241,7 @@ keeps_reserved p q old new few_p few_q ready = record {
       few_grown old new new.spare_pages new.spare_groups is ready.geometry pages groups pages groups ready.buckets ready.group_buckets few;
 }
 
--- a reservation that was refused may have left the buckets of the page-mapped addresses grown
+-- a reservation that failed may have left the buckets of the page-mapped addresses grown
 pub few_refused : (p : ℕ) (old new : MapValue) → p ≤ most_page_records → IsMap old.geometry old.entries → new.geometry ≡ old.geometry → new.spare_pages ≡ old.spare_pages → new.spare_groups ≡ old.spare_groups
     → (new.buckets ≡ old.buckets) ⊎ GrewForPages old new (max old.spare_pages p) → new.group_buckets ≡ old.group_buckets → HasFewBuckets old → HasFewBuckets new
 few_refused p old new few_p is same pages groups buckets group_buckets few = record {

@@ -1,4 +1,4 @@
--- What the tests of a data block say of whether it fits.
+-- The tests of a data block decide whether it fits.
 use Rattle.std.proofs.Common.{◌≡◌, ◌↔◌, ℕ, ◌+◌, ◌-◌, ◌*◌, ◌/◌, ◌%◌, ◌^◌, ◌<◌, ◌≤◌, ◌==◌, nat_le, min, Bool, true, false, not, bit_and, IsTrue, refl, sym, ◌∙◌, ap, subst, arith, inl, inr, eqb-true, eq-eqb, ne_eqb, nat_lt, ltb-true, lt-ltb, leb-true, le-leb}
 use Rattle.std.specs.Int.{bit_at}
 use Rattle.std.proofs.lemmas.Bool.{both_ways, not-true}
@@ -115,7 +115,7 @@ set_below set pages = (
     below : set / 2 ^ pages ≡ 0 → set < set / 2 ^ pages * 2 ^ pages + 2 ^ pages → set < 2 ^ pages
     below none lt = let here : set < 0 * 2 ^ pages + 2 ^ pages = subst (λ n. set < n * 2 ^ pages + 2 ^ pages) none lt in omega arith
 
--- ---- records that take away
+-- ---- records that remove or clean
 
 pub remove_decides : (g : Geometry) (m : Entries) (lba : ℕ) → IsMap g m → (nat_lt lba g.size ≡ true → Fits g (Remove lba) m) × (Fits g (Remove lba) m → nat_lt lba g.size ≡ true)
 remove_decides g m lba is_map = (λ t. remove_fits g lba m is_map (ltb-true _ _ t), λ fits. lt-ltb _ _ fits.in_reach)

@@ -287,7 +287,7 @@ module _ (g : Geometry) (pages : PackedTable MappedPage) (blocks : PackedTable B
       let long' = len_of-items blocks packed.blocks_sound.packed.once in
       omega (arith, room, room', few, few', long, long')
 
--- a table that doubled for no more than 2^30 keys has no more than 2^32 buckets
+-- a table that doubled for at most 2^30 keys has at most 2^32 buckets
 pub doubled_few : (need narrow wide : ℕ) → need ≤ 2 ^ 30 → narrow ≤ 2 ^ 32 → IsDoubledFor need narrow wide → wide ≤ 2 ^ 32
 doubled_few need narrow wide few old doubled = elim (start_or_few need narrow wide doubled) [
   | inl is ↦ subst (λ n. n ≤ 2 ^ 32) (sym is) (start_few (nat_le 32 narrow))
@@ -298,12 +298,12 @@ doubled_few need narrow wide few old doubled = elim (start_or_few need narrow wi
     start_few true = old
     start_few false = omega arith
 
--- the same where the call may have been refused
+-- the same, if the call may have failed
 pub doubled_or_same : {T E : Type 0} (r : Result T E) (need narrow wide : ℕ) → need ≤ 2 ^ 30 → narrow ≤ 2 ^ 32 → OnOk r (IsDoubledFor need narrow wide) → OnErr r (wide ≡ narrow) → wide ≤ 2 ^ 32
 doubled_or_same (Ok x) need narrow wide few old doubled same = doubled_few need narrow wide few old doubled
 doubled_or_same (Err e) need narrow wide few old doubled same = omega (arith, same, old)
 
--- a table whose buckets and room stay as they were shows the same
+-- a table whose buckets and room are unchanged shows the same
 abbrev pub held_of : Geometry → PackedTable MappedPage → PackedTable BlockPages → HeldValue
 held_of g pages blocks = record {
   geometry = g;

@@ -1,4 +1,4 @@
--- What is looked for among the entries, and counts of marked groups.
+-- The entries that are looked for, and counts of marked groups.
 use Rattle.std.proofs.Common.{◌≡◌, ◌↔◌, IsTrue, ℕ, zero, suc, ◌+◌, ◌/◌, ◌<◌, ◌≤◌, ◌==◌, Bool, true, false, cond, List, [], ◌∷◌, length, Some, refl, sym, ◌∙◌, ap, arith, inl, inr, subst}
 use Rattle.std.specs.FinMap.{get, entries}
 use Rattle.std.proofs.lemmas.Bool.{cases_Bool, or_left, both_ways, cases_eq}
@@ -28,9 +28,9 @@ module _ (f : ℕ × Entry → ℕ) (t : Entry → Bool) (m : Entries) where
   pub member_to : (n : ℕ) → member n (numbers f t (entries m)) ≡ true → (x : ℕ × Entry) × (get m x.0 ≡ Some x.1) × (t x.1 ≡ true) × (f x ≡ n)
   member_to n is = member_of f t (λ x. get m x.0 ≡ Some x.1) (entries m) n (all_entries m (λ a e. get m a ≡ Some e) (λ a e is. is)) is
 
--- ---- counts of marked groups, where one group alone changes
+-- ---- counts of marked groups, when one group alone changes
 
--- how a map stands to another that differs in one group alone, and whether that group has the mark then
+-- the relation of a map to another that differs in one group alone, and whether that group then has the mark
 pub record ChangesGroup (g : Geometry) (mark : Mark) (group : ℕ) (old new : Entries) (has : Bool) : Type 0 where
   pub others : (a : ℕ) → (a / g.p ≡ group → ⊥) → get new a ≡ get old a
   pub there : has ≡ true → (a : ℕ) × (e : Entry) × (get new a ≡ Some e) × (a / g.p ≡ group) × (has_mark mark e ≡ true)
@@ -76,7 +76,7 @@ some_counted (k ∷ ns) n t = elim (cases_Bool (member k ns)) [
 pub counts_some : (g : Geometry) (mark : Mark) (m : Entries) (group n : ℕ) (had : Bool) → n ≡ length (groups_with g (has_mark mark) m) → (had ≡ true → HasMarkIn g m mark group) → had ≡ true → 1 ≤ n
 counts_some g mark m group n had is before t = let some = some_counted (numbers (λ x. x.0 / g.p) (has_mark mark) (entries m)) group ((counts_group g mark m group).1 (before t)) in omega (arith, is, some)
 
--- the group may have the mark from now on exactly where at most C groups have it then
+-- the group may have the mark from now on exactly when at most C groups then have it
 pub may_have_fits : (g : Geometry) (mark : Mark) (group : ℕ) (old new : Entries) (has : Bool) → ChangesGroup g mark group old new has → length (groups_with g (has_mark mark) old) ≤ g.c
     → (MayHave g old mark group has → length (groups_with g (has_mark mark) new) ≤ g.c) × (length (groups_with g (has_mark mark) new) ≤ g.c → MayHave g old mark group has)
 may_have_fits g mark group old new has change few =
@@ -106,7 +106,7 @@ may_have_fits g mark group old new has change few =
     by_bits d d' true true there sum fits is = inr (inr (there refl))
     by_bits d d' false true there sum fits is = inr (inl (omega (arith, sum, fits, is)))
 
--- when it may
+-- when the group may have it
 module _ (g : Geometry) (m : Entries) (mark : Mark) (group : ℕ) (has : Bool) where
   pub may_without : has ≡ false → IsTrue true ↔ MayHave g m mark group has
   may_without f = (λ t. inl f, λ may. refl)

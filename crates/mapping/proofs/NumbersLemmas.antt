@@ -14,7 +14,7 @@ module _ (g : Geometry) where
   pub pool_end : blocks g ≡ first_pool g + (g.c + g.l + 1)
   pool_end = omega arith
 
-  -- the pool has no more pages than that of the largest geometry
+  -- the pool has at most as many pages as the pool of the largest geometry
   pub pages_few : pool_pages g ≤ 73856
   pages_few =
       let c = g.in_range.c_high in
@@ -25,7 +25,7 @@ module _ (g : Geometry) where
       mul_le : (a b c d : ℕ) → a ≤ b → c ≤ d → a * c ≤ b * d
       mul_le a b c d le le' = grind arith
 
-  -- the number of a page of the pool is below their count
+  -- the number of a page of the pool is below the number of its pages
   pub number_below : (at : Place) → InPool g at → number_of g at < pool_pages g
   number_below at pool =
       let above = pool.above in

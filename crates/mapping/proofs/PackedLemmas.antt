@@ -1,4 +1,4 @@
--- What two packed maps have at an address, and what a change of them makes of their entries.
+-- The entries that two packed maps have at an address, and how a change of the maps changes them.
 use Rattle.std.proofs.Common.{◌≡◌, ℕ, ◌+◌, ◌-◌, ◌*◌, ◌/◌, ◌%◌, ◌<◌, ◌≤◌, ◌==◌, ◌&&◌, Bool, true, false, cond, not, List, [], ◌∷◌, Option, Some, None, option_map}
 use Rattle.std.proofs.Common.{refl, sym, ◌∙◌, ap, ap₂, subst, arith, inl, inr, nat_cmp, eqb-true, eq-eqb, ne_eqb, ◌||◌, is_some, IfSome, IfNone, length, map, nat_lt, lt-ltb, ltb-true, le-ltb, length-append}
 use Rattle.std.specs.Bool.{then_some}
@@ -39,13 +39,13 @@ none_in : (o : Option MappedPage) (r : Option Entry) → entry_in o r ≡ None �
 none_in None r is = (refl, is)
 none_in (Some x) r is = none_some (in_log_block x.place x.dirty) (sym is)
 
--- a new key takes one of the room
+-- a new key takes one place of the room
 pub spare_less : {A : Type 0} (o : Option A) (old new : ℕ) → o ≡ None → new ≡ cond (is_some o) old (old - 1) → 1 ≤ old → new + 1 ≡ old
 spare_less o old new none is some =
     let less : new ≡ old - 1 = is ∙ ap (λ x. cond (is_some x) old (old - 1)) none in
     omega arith
 
--- an address is told by its group and its page
+-- a group and a page determine an address
 pub is_address : (p a lba : ℕ) → (a == lba) ≡ ((a / p == lba / p) && (a % p == lba % p))
 is_address p a lba =
     let whole = div-add-mod' a p in
@@ -58,7 +58,7 @@ module _ (g : Geometry) where
   some_pages : 0 < g.p
   some_pages = omega (arith, g.in_range.p_low)
 
-  -- ---- what stands at an address
+  -- ---- the entry at an address
 
   get_block_list : (xs : List (ℕ × BlockPages)) (q : ℕ) → get (with_data_blocks g xs) q ≡ page_in (find nat_cmp (q / g.p) xs) (q % g.p)
   get_block_list [] q = get-empty nat_cmp q
@@ -78,7 +78,7 @@ module _ (g : Geometry) where
         | inr f ↦ ap (λ b. cond b new (get (with_logs g xs m) q)) f ∙ get_log_list xs m q ∙ sym (ap (λ b. entry_in (cond b (Some x.1) (find nat_cmp q xs)) (get m q)) (eq_key q x.0 ∙ f))
       ]
 
-  -- the entry of the mapped page, or else that of the data block of the group
+  -- the entry of the mapped page, or else of the group's data block
   pub get_held : (pages : Pages) (blocks : Blocks) (q : ℕ) → get (packed_entries g pages blocks) q ≡ entry_in (get pages q) (page_in (get blocks (q / g.p)) (q % g.p))
   unfolding packed_entries
   get_held pages blocks q =
@@ -277,7 +277,7 @@ module _ (g : Geometry) where
       before : (j : ℕ) (c : BlockPages) → get blocks' j ≡ Some c → get blocks j ≡ Some c
       before j c at = taken (j == k) (get blocks j) c (sym (ap (λ m. get m j) is ∙ get_remove blocks k j) ∙ at)
 
-  -- a block of no other page
+  -- a block that has no other page
   pub left_none : (blocks blocks' : Blocks) (k page : ℕ) (a : BlockPages) → blocks' ≡ remove blocks k → get blocks k ≡ Some a → IsOnlyPage a.present page → IsLeftOut g blocks blocks' k page
   left_none blocks blocks' k page a is at only = record {
     others = λ j i. ap (λ o. page_in o i) (ap (λ m. get m j) is ∙ get_remove blocks k j) ∙ elim (cases_Bool (j == k)) [
@@ -296,7 +296,7 @@ module _ (g : Geometry) where
       nothing true e = refl
       nothing false e = refl
 
-  -- ---- an address less
+  -- ---- one address less
 
   module _ (pages pages' : Pages) (blocks blocks' : Blocks) (lba : ℕ) (is : pages' ≡ remove pages lba) (left : IsLeftOut g blocks blocks' (lba / g.p) (lba % g.p)) where
     page_gone : (q : ℕ) → get pages' q ≡ cond (q == lba) None (get pages q)
@@ -323,7 +323,7 @@ module _ (g : Geometry) where
         by_test true s = refl
         by_test false s = apart a x s
 
-  -- ---- a group less
+  -- ---- one group less
 
   module _ (pages pages' : Pages) (blocks blocks' : Blocks) (k : ℕ) (gone : (q : ℕ) → get pages' q ≡ cond (q / g.p == k) None (get pages q)) (is : blocks' ≡ remove blocks k) where
     block_less : (j : ℕ) → get blocks' j ≡ cond (j == k) None (get blocks j)
@@ -370,7 +370,7 @@ module _ (g : Geometry) where
     at_page : (k i : ℕ) → i < g.p → get (packed_entries g pages blocks) (k * g.p + i) ≡ entry_in (get pages (k * g.p + i)) (page_in (get blocks k) i)
     at_page k i low = get_held pages blocks (k * g.p + i) ∙ ap₂ (λ j n. entry_in (get pages (k * g.p + i)) (page_in (get blocks j) n)) (div-mul-add k g.p i low) (mod-mul-add k g.p i low)
 
-    -- a page of a group is in its data block exactly where the block has it
+    -- a page of a group is in its data block exactly when the block has it
     mapped_is : (k i : ℕ) → i < g.p → is_chosen Mapped (get (packed_entries g pages blocks) (k * g.p + i)) ≡ is_chosen Mapped (page_in (get blocks k) i)
     mapped_is k i low = ap (is_chosen Mapped) (at_page k i low) ∙ by_log (get pages (k * g.p + i)) refl
       where
@@ -486,7 +486,7 @@ module _ (g : Geometry) where
 
   -- ---- the mapped pages of a group
 
-  -- those before page i are gone
+  -- the mapped pages before page i are removed
   pub record PagesGone (group : ℕ) (old new : PackedTable MappedPage) (i : ℕ) : Type 0 where
     pub gone : (q : ℕ) → get (map_of new) q ≡ cond ((q / g.p == group) && nat_lt (q % g.p) i) None (get (map_of old) q)
     pub spare : new.spare ≡ old.spare

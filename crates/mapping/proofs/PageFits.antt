@@ -1,4 +1,4 @@
--- What the tests of a page say of whether it fits.
+-- The tests of a page decide whether it fits.
 use Rattle.std.proofs.Common.{◌≡◌, ◌↔◌, ℕ, ◌+◌, ◌-◌, ◌/◌, ◌<◌, ◌≤◌, ◌==◌, nat_le, nat_lt, ◌&&◌, Bool, true, false, cond, not, length, get_or, Option, Some, None, IsTrue, refl, sym, ◌∙◌, ap, arith, inl, inr, eq-eqb, ne_eqb, leb-true, le-leb, ltb-true, lt-ltb}
 use Rattle.std.specs.Cmp.{nat_cmp_total}
 use Rattle.std.specs.FinMap.{get, remove, same_map, nat_cmp-IsAntisymmetric}
@@ -24,7 +24,7 @@ use Rattle.mapping.proofs.TallyLemmas.{not_there, others_there, tally_without, u
 use Rattle.mapping.proofs.FittingLemmas.{page_cases, page_here, page_other, page_fits, fits_page}
 use Rattle.mapping.proofs.SeekingLemmas.{none_some}
 
--- what is refused where the fact doesn't hold
+-- a test answers false if the fact doesn't hold
 pub refused : {P : Type 0} → (P → ⊥) → IsTrue false ↔ P
 refused not = (λ t. absurd (false≢true t), λ p. absurd (not p))
 
@@ -66,7 +66,7 @@ module _ (g : Geometry) (m : Entries) (lba : ℕ) where
           let sum : tally (is_mapped_in block) (remove m lba) + cond (is_mapped_in block e) 1 0 ≡ tally (is_mapped_in block) m = tally_without (is_mapped_in block) m lba e at in
           omega (arith, nothing, sum)
 
-  -- what the list counts for a block of the pool
+  -- the count that the list has for a block of the pool
   pub count_read : (logs : LogCounts) (block first x : ℕ) → LogsAre g m logs → first ≡ first_pool g → first_pool g ≤ block → block < blocks g → x ≡ get_or logs.pages.items (block - first) x → x ≡ tally (is_mapped_in block) m
   count_read logs block first x all is above below read =
       let low : block - first_pool g < g.c + g.l + 1 = omega (arith, pool_end g) in

@@ -1,4 +1,4 @@
--- The entries without those of a range of addresses.
+-- The entries without the entries of a range of addresses.
 use Rattle.std.proofs.Common.{◌≡◌, ℕ, zero, suc, ◌+◌, ◌*◌, ◌/◌, ◌%◌, ◌<◌, ◌≤◌, ◌==◌, None, refl, sym, ◌∙◌, ap, subst, arith, inl, inr, ◌⊎◌, add-one, ne_eqb}
 use Rattle.std.specs.Cmp.{nat_cmp_total}
 use Rattle.std.specs.FinMap.{get, remove, same_map, nat_cmp-IsAntisymmetric}
@@ -70,7 +70,7 @@ same_without m n first k same = same_map nat_cmp_total nat_cmp-IsAntisymmetric (
     beside : (q : ℕ) → IsOutside first k q → get (without_range m first k) q ≡ get (without_range n first k) q
     beside q out = outside m first k q out ∙ same q out ∙ sym (outside n first k q out)
 
--- ---- what a record changes
+-- ---- the addresses that a record changes
 
 not_one : (lba q : ℕ) → IsOutside lba 1 q → q ≡ lba → ⊥
 not_one lba q (inl low) s = absurd (omega arith)

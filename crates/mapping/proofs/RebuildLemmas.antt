@@ -36,7 +36,7 @@ only_mapped None = None
 only_mapped (Some e) = if e.block_mapped then Some e else None
 
 module _ (g : Geometry) (m : Entries) (is_map : IsMap g m) where
-  -- each entry of it is one of the map
+  -- each of these entries is one of the map
   record IsPart (n : Entries) : Type 0 where
     held : (a : ℕ) (e : Entry) → get n a ≡ Some e → get m a ≡ Some e
 
@@ -46,7 +46,7 @@ module _ (g : Geometry) (m : Entries) (is_map : IsMap g m) where
   some_pages : 0 < g.p
   some_pages = omega (arith, g.in_range.p_low)
 
-  -- what a group's record puts at an address of the group is what the map has there in a data block
+  -- a group's record puts at an address of the group the entry that the map has there in a data block
   group_page : (group a : ℕ) → a / g.p ≡ group → page_of_group (block_below m (group * g.p) g.p) (chosen_of Mapped g m group) (chosen_of MappedDirty g m group) (a % g.p) ≡ only_mapped (get m a)
   group_page group a in_group = by_entry (get m a) refl
     where
@@ -86,7 +86,7 @@ module _ (g : Geometry) (m : Entries) (is_map : IsMap g m) where
 
   -- ---- step by step
 
-  -- a group's record leaves the map's data block of the group, and all else
+  -- a group's record sets the map's data block of the group, and keeps all else
   after_group : (group : ℕ) (n : Entries) (a : ℕ) → get (after g (set_group_of g m group) n) a ≡ (if a / g.p == group then only_mapped (get m a) else get n a)
   after_group group n a = get-after g (set_group_of g m group) n a ∙ elim (cases_Bool (a / g.p == group)) [
     | inl t ↦
@@ -128,7 +128,7 @@ module _ (g : Geometry) (m : Entries) (is_map : IsMap g m) where
   record AreGroups (groups : List ℕ) : Type 0 where
     entry : (k : ℕ) → member k groups ≡ true → (a : ℕ) × (e : Entry) × (get m a ≡ Some e) × (a / g.p ≡ k)
 
-  -- what the records of groups leave
+  -- the entries after the records of groups
   record GroupsBuilt (groups : List ℕ) (n n1 : Entries) : Type 0 where
     built : after_all g (map (set_group_of g m) groups) n ≡ Some n1
     part : IsPart n1

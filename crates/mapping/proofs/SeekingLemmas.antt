@@ -1,4 +1,4 @@
--- What is found in an erase block, page by page.
+-- The entry that is found in an erase block, page by page.
 use Rattle.std.proofs.Common.{◌≡◌, ◌↔◌, ℕ, ◌+◌, ◌*◌, ◌%◌, ◌<◌, ◌==◌, Bool, true, false, not, List, get_or, Option, Some, None, is_some, IfSome, IfNone, IsTrue, refl, sym, ◌∙◌, ap, subst, arith, eq-eqb, ne_eqb}
 use Rattle.std.specs.FinMap.{get}
 use Rattle.std.proofs.lemmas.Bool.{both_ways, not-true}
@@ -23,7 +23,7 @@ pub none_some : {A B : Type 0} (x : A) → None ≡ Some x → B
 none_some x s = absurd (cc)
 
 module _ (g : Geometry) (m : Entries) (is_map : IsMap g m) (owners : List (Option ℕ)) (all : OwnersAre g m owners) (at : Place) (pool : InPool g at) where
-  -- who has the page by the list has it
+  -- the owner of the page by the list is its owner by the entries
   pub owner_there : (a : ℕ) → Some a ≡ get_or owners (number_of g at) None → Owns m at a
   owner_there a is =
       let x = all.owned (number_of g at) a (sym is) in
@@ -61,7 +61,7 @@ none_marked g m mark group none x =
     let low : x.0 % g.p < g.p = mod_below x.0 g.p (omega (arith, g.in_range.p_low)) in
     none (x.0 % g.p) low (subst (λ a. HasMarkAt m mark a) (sym (own_address g m group x.0 x.1)) x.2)
 
--- ---- what was found, or not
+-- ---- a result that was found, or not
 
 pub some_found : (P : ℕ → Type 0) (o : Option ℕ) (b : Bool) → b ≡ is_some o → IfSome o P → b ≡ true → (a : ℕ) × P a
 some_found P None b is some t = absurd (both_ways b is t)

@@ -1,4 +1,4 @@
--- A change made in two steps: what was there goes, and what comes is put in.
+-- A change made in two steps: the old entries are removed, and the new ones are put in.
 use Rattle.std.proofs.Common.{◌≡◌, ℕ, ◌+◌, ◌*◌, ◌/◌, ◌%◌, ◌^◌, ◌<◌, ◌≤◌, ◌==◌, Bool, true, false, cond, bit_and, Option, Some, None, refl, sym, ◌∙◌, ap, ap₂, eq-eqb}
 use Rattle.std.specs.Bool.{then_some}
 use Rattle.std.specs.Cmp.{nat_cmp_total}
@@ -64,7 +64,7 @@ module _ (g : Geometry) (m : Entries) where
       page_same i false is = ap (λ b. then_some b (record { place = record { block = block; page = i }; dirty = has_bit (bit_and dirty present) i; block_mapped = true })) is
           ∙ sym (ap (λ b. then_some b (record { place = record { block = block; page = i }; dirty = has_bit dirty i; block_mapped = true })) is)
 
-  -- a data block of no page is none
+  -- a data block without pages is no data block
   pub group_of_none : (k block present dirty : ℕ) → present ≡ 0 → after g (RemoveGroup k) m ≡ after g (SetGroup k block present dirty) m
   group_of_none k block present dirty none = same_map nat_cmp_total nat_cmp-IsAntisymmetric (after g (RemoveGroup k) m) (after g (SetGroup k block present dirty) m) (λ q.
       get-after g (RemoveGroup k) m q

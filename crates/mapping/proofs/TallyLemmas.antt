@@ -79,7 +79,7 @@ tally_without t m a e is =
     no_more : (k : ℕ) → k + 0 ≡ k
     no_more k = omega arith
 
--- a map has no more entries than the pool has pages
+-- a map has at most as many entries as the pool has pages
 pub from_its_entries : (m : Entries) → from_entries {R = nat_cmp} (entries m) ≡ m
 from_its_entries m = same_map nat_cmp_total nat_cmp-IsAntisymmetric (from_entries (entries m)) m (λ q. get-from_entries nat_cmp_total (entries m) q ∙ sym (get-entries m q))
 
@@ -184,7 +184,7 @@ log_member m x = same_bools (member x (numbers (λ x. x.1.place.block) page_mapp
       | inr other ↦ omega arith
     ]
 
--- without a mapped page: its block may have been the only one it stood in
+-- without a mapped page: its block may have had no other one
 pub used_without : (m : Entries) (a : ℕ) (e : Entry) → get m a ≡ Some e → page_mapped e ≡ true → length (blocks_with page_mapped (remove m a)) + cond (tally (is_mapped_in e.place.block) (remove m a) == 0) 1 0 ≡ length (blocks_with page_mapped m)
 used_without m a e is mapped =
     let f : ℕ × Entry → ℕ = λ x. x.1.place.block in
@@ -226,7 +226,7 @@ log_tally_same m a x e is f =
     let none : ◌≡◌ {A = ℕ} (cond (is_mapped_in x e) 1 0) 0 = ap (λ b. cond b 1 0) f in
     omega (arith, sum, none)
 
--- one block less is used where its last page goes, and one more where its first comes
+-- one block less is used if its last page is removed, and one more if its first is added
 pub one_less : (x used : ℕ) → x ≡ 0 → 1 ≤ used → used - 1 + cond (x == 0) 1 0 ≡ used
 one_less x used none some = let yes : ◌≡◌ {A = ℕ} (cond (x == 0) 1 0) 1 = ap (λ b. cond b 1 0) (eq-eqb x 0 none) in omega (arith, yes)
 
@@ -274,7 +274,7 @@ module _ (g : Geometry) (m : Entries) (is_map : IsMap g m) (a : ℕ) (e : Entry)
       other : e.place.block ≡ first_pool g + c → c ≡ e.place.block - first_pool g
       other s = omega arith
 
-  -- a page of a data block changes none of them
+  -- a page of a data block changes none of the counts
   pub logs_same_without : (logs : LogCounts) → e.block_mapped ≡ true → LogsAre g m logs → LogsAre g (remove m a) logs
   logs_same_without logs t old = record {
     long = old.long;
@@ -292,14 +292,14 @@ module _ (g : Geometry) (m : Entries) (is_map : IsMap g m) (a : ℕ) (e : Entry)
   one_page_more : page_mapped e ≡ true → tally (is_mapped_in (first_pool g + (e.place.block - first_pool g))) (remove m a) + 1 ≡ tally (is_mapped_in (first_pool g + (e.place.block - first_pool g))) m
   one_page_more t = ap (λ c. tally (is_mapped_in (first_pool g + (e.place.block - first_pool g))) (remove m a) + cond c 1 0) (sym (log_is t)) ∙ tally_without (is_mapped_in (first_pool g + (e.place.block - first_pool g))) m a e is
 
-  -- what its block counts
+  -- the count of the entry's block
   pub count_here : (logs : LogCounts) → page_mapped e ≡ true → LogsAre g m logs → get_or logs.pages.items (e.place.block - first_pool g) 0 ≡ tally (is_mapped_in (first_pool g + (e.place.block - first_pool g))) (remove m a) + 1
   count_here logs t old = old.pages (e.place.block - first_pool g) low ∙ sym (one_page_more t)
 
   pub count_few : (logs : LogCounts) → LogsAre g (remove m a) logs → get_or logs.pages.items (e.place.block - first_pool g) 0 ≤ 73856
   count_few logs old = let few = tally_few g (is_mapped_in (first_pool g + (e.place.block - first_pool g))) (remove m a) (without_map g m a is_map) in let is = old.pages (e.place.block - first_pool g) low in omega arith
 
-  -- where its block has no other, it is used no more
+  -- if the entry's block has no other mapped page, the block is no longer used
   pub used_here : page_mapped e ≡ true → length (blocks_with page_mapped (remove m a)) + cond (tally (is_mapped_in (first_pool g + (e.place.block - first_pool g))) (remove m a) == 0) 1 0 ≡ length (blocks_with page_mapped m)
   used_here t = ap (λ x. length (blocks_with page_mapped (remove m a)) + cond (tally (is_mapped_in x) (remove m a) == 0) 1 0) whole ∙ used_without m a e is t
 
@@ -339,7 +339,7 @@ module _ (g : Geometry) (m : Entries) (is_map : IsMap g m) (a : ℕ) (e : Entry)
         (ap (λ k. cond (k == 0) 1 0) (all.pages (e.place.block - first_pool g) low));
   }
 
-  -- ---- the same by what the code reads
+  -- ---- the same, by the numbers that the code reads
 
   read_is : (logs : LogCounts) (first x : ℕ) → first ≡ first_pool g → x ≡ get_or logs.pages.items (e.place.block - first) x → length logs.pages.items ≡ g.c + g.l + 1 → x ≡ get_or logs.pages.items (e.place.block - first_pool g) 0
   read_is logs first x is_first read long = read ∙ ap (λ n. get_or logs.pages.items (e.place.block - n) x) is_first ∙ get_or_default logs.pages.items (e.place.block - first_pool g) x 0 (omega (arith, long, low))
@@ -418,7 +418,7 @@ module _ (g : Geometry) (m : Entries) (is_map : IsMap g m) (a : ℕ) (e : Entry)
     ];
   }
 
-  -- ---- all of it
+  -- ---- the whole index
 
   pub held_some : (index : Index) → IsIndex g m index → 1 ≤ index.held
   held_some index all = let sum : tally is_any (remove m a) + 1 ≡ tally is_any m = tally_without is_any m a e is in let count = all.held in omega (arith, sum, count)
@@ -452,7 +452,7 @@ pub bit_few : (b : Bool) (n : ℕ) → n ≡ cond b 1 0 → n ≤ 1
 bit_few true n is = omega arith
 bit_few false n is = omega arith
 
--- ---- that of no entries
+-- ---- the index of no entries
 
 pub no_index : (g : Geometry) (index : Index) (nobody : Option ℕ) → nobody ≡ None → index.owners.items ≡ replicate (pool_pages g) nobody → index.logs.pages.items ≡ replicate (g.c + g.l + 1) 0 → index.logs.used ≡ 0 → index.held ≡ 0 → index.dirty ≡ 0 → IsIndex g no_entries index
 no_index g index nobody is_none owners logs used held dirty = record {

@@ -6,12 +6,12 @@ use Rattle.mapping.specs.MappedPages.{MappedPage}
 use Rattle.std.specs.FinMap.{is_sorted}
 use Rattle.std.specs.Ordering.{nat_cmp}
 
--- the entry of a mapped page, or else that of the data block
+-- the entry of a mapped page, or else of the data block
 abbrev pub entry_in : Option MappedPage → Option Entry → Option Entry
 entry_in None o = o
 entry_in (Some x) o = Some (in_log_block x.place x.dirty)
 
--- how many of the numbers from here on, so many, pass a test
+-- how many of n numbers, from this one on, pass a test
 abbrev pub count_range : (ℕ → Bool) → ℕ → ℕ → ℕ
 count_range test from zero = 0
 count_range test from (suc n) = (if test from then 1 else 0) + count_range test (from + 1) n

@@ -13,7 +13,7 @@ abbrev pub set_of : (ℕ → Bool) → ℕ → ℕ
 set_of test zero = 0
 set_of test (suc n) = set_of test n + (if test n then 2 ^ n else 0)
 
--- an entry is one of those that are chosen
+-- the entry is one of the chosen entries
 abbrev pub is_chosen : Choice → Option Entry → Bool
 is_chosen choice None = false
 is_chosen Held (Some e) = true
@@ -25,11 +25,11 @@ is_chosen MappedDirty (Some e) = e.block_mapped && e.dirty
 abbrev pub chosen_of : Choice → Geometry → Entries → ℕ → ℕ
 chosen_of choice g m group = set_of (λ i. is_chosen choice (get m (group * g.p + i))) g.p
 
--- what the group has in a data block stands in this one
+-- the entries that the group has in a data block are all in this one
 abbrev pub StandIn : Geometry → Entries → ℕ → ℕ → Type 0
 StandIn g m group block = (a : ℕ) (e : Entry) → get m a ≡ Some e → e.block_mapped ≡ true → a / g.p ≡ group → e.place.block ≡ block
 
--- the data block of the group, and the pages of it that are present and dirty
+-- the data block of the group, and its present and dirty pages
 pub record IsDataBlock (g : Geometry) (m : Entries) (group : ℕ) (pages : BlockPages) : Type 0 where
   pub stands : StandIn g m group pages.block
   pub present : pages.present ≡ chosen_of Mapped g m group

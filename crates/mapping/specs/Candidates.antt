@@ -13,19 +13,19 @@ use Rattle.mapping.specs.Bits.{chosen_of, IsDataBlock}
 use Rattle.mapping.specs.Numbers.{IsGroupIn}
 use Rattle.mapping.specs.Seeking.{HasMarkIn}
 
--- something of the group is held
+-- some address of the group is held
 abbrev pub IsGroupHeld : Geometry → Entries → ℕ → Type 0
 IsGroupHeld g m group = (a : ℕ) × (e : Entry) × (get m a ≡ Some e) × (a / g.p ≡ group)
 
--- something of the group is held in a data block
+-- some address of the group is held in a data block
 abbrev pub HasDataBlock : Geometry → Entries → ℕ → Type 0
 HasDataBlock g m group = (a : ℕ) × (e : Entry) × (get m a ≡ Some e) × (a / g.p ≡ group) × (e.block_mapped ≡ true)
 
--- nothing of the group is dirty
+-- no address of the group is dirty
 abbrev pub IsClean : Geometry → Entries → ℕ → Type 0
 IsClean g m group = (a : ℕ) (e : Entry) → get m a ≡ Some e → a / g.p ≡ group → e.dirty ≡ false
 
--- something of the group is held in a data block, and nothing of the group is dirty
+-- some address of the group is held in a data block, and no address of the group is dirty
 pub record IsCandidate (g : Geometry) (m : Entries) (group : ℕ) : Type 0 where
   pub some : HasDataBlock g m group
   pub clean : IsClean g m group
@@ -34,14 +34,15 @@ pub record IsCandidate (g : Geometry) (m : Entries) (group : ℕ) : Type 0 where
 abbrev pub pages_held : Geometry → Entries → ℕ → ℕ
 pages_held g m group = page_count g.p (chosen_of Mapped g m group)
 
--- the erase block is the data block of a group that may give way, and so many of its pages are held
+-- the erase block is the data block of a group that may give way, and this many of its pages are held
 pub record IsCandidateIn (g : Geometry) (m : Entries) (block count : ℕ) : Type 0 where
   pub group : ℕ
   pub candidate : IsCandidate g m group
   pub in_block : IsGroupIn g m block group
   pub pages : count ≡ pages_held g m group
 
--- for each erase block of the pool: the held pages of the data block that it is, where its group may give way; and else 65,535
+-- for each erase block of the pool: how many pages are held in it, if it is the data block of a group that may give
+-- way; else 65,535
 pub record AreCandidates (g : Geometry) (m : Entries) (counts : List ℕ) : Type 0 where
   pub long : length counts ≡ g.c + g.l + 1
   pub counted : (i : ℕ) → i < length counts → (slice_index_or counts i 0 ≡ 65535)
@@ -53,12 +54,12 @@ pub record AreCandidates (g : Geometry) (m : Entries) (counts : List ℕ) : Type
 abbrev pub StandsInPool : Geometry → BlockPages → Type 0
 StandsInPool g b = (first_pool g ≤ b.block) × (b.block < blocks g)
 
--- the list with this count at the erase block of a data block, where there is one
+-- the list with this count at the erase block of a data block, if there is one
 abbrev pub with_count : Geometry → Option BlockPages → ℕ → List ℕ → List ℕ
 with_count g None count counts = counts
 with_count g (Some b) count counts = slice_set counts (b.block - first_pool g) count
 
--- maps that are alike but for one group, with its data block in each, and whether it is dirty in the second
+-- two maps that differ in one group alone, with its data block in each, and whether the group is dirty in the second
 pub record ChangesOne (g : Geometry) (m n : Entries) (group : ℕ) (before now : Option BlockPages) (dirty : Bool) : Type 0 where
   pub old_map : IsMap g m
   pub new_map : IsMap g n

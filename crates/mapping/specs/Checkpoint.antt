@@ -16,16 +16,16 @@ abbrev pub block_or : Option Entry → ℕ → ℕ
 block_or None block = block
 block_or (Some e) block = if e.block_mapped then e.place.block else block
 
--- the data block that the pages of a group below n stand in
+-- the data block that has the pages of a group below n
 abbrev pub block_below : Entries → ℕ → ℕ → ℕ
 block_below m first zero = 0
 block_below m first (suc n) = block_or (get m (first + n)) (block_below m first n)
 
--- what sets a group's data block
+-- the record that sets a group's data block
 abbrev pub set_group_of : Geometry → Entries → ℕ → Record
 set_group_of g m group = SetGroup group (block_below m (group * g.p) g.p) (chosen_of Mapped g m group) (chosen_of MappedDirty g m group)
 
--- what sets a page of a log block
+-- the record that sets a page of a log block
 abbrev pub set_page_of : ℕ × Entry → Record
 set_page_of x = SetPage x.0 x.1.place x.1.dirty
 
@@ -42,7 +42,8 @@ pub record ListsPages (m : Entries) (pages : List (ℕ × Entry)) : Type 0 where
   pub all : (a : ℕ) (e : Entry) → get m a ≡ Some e → page_mapped e ≡ true → list_any (λ n. n == a) (map (λ x. x.0) pages) ≡ true
   pub once : length pages ≡ length (filter (λ x. page_mapped x.1) (entries m))
 
--- what sets each group with a data block, and then what sets each page-mapped entry, each once, in some order
+-- a record that sets each group with a data block, and then one that sets each page-mapped entry, each once, in some
+-- order
 pub record IsCheckpointOf (g : Geometry) (m : Entries) (records : List Record) : Type 0 where
   pub groups : List ℕ
   pub pages : List (ℕ × Entry)
@@ -50,7 +51,7 @@ pub record IsCheckpointOf (g : Geometry) (m : Entries) (records : List Record) :
   pub of_groups : ListsGroups g m groups
   pub of_pages : ListsPages m pages
 
--- the list has those of these records that are numbered from here on, as far as it goes
+-- the list has these records from number `from` on, as far as the list goes
 pub record HasWindow (records : List Record) (from : ℕ) (out : List Record) : Type 0 where
   pub at : (j : ℕ) (d : Record) → from ≤ j → j < length records → j < from + length out
       → slice_index_or out (j - from) d ≡ slice_index_or records j d

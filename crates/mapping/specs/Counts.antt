@@ -18,7 +18,7 @@ dirty_count m = count_by (λ x. x.1.dirty) (entries m)
 abbrev pub page_mapped_count : Entries → ℕ
 page_mapped_count m = length (filter (λ x. page_mapped x.1) (entries m))
 
--- groups with a dirty entry, and groups with a data block
+-- how many groups have a dirty entry, and how many have a data block
 abbrev pub dirty_group_count : Geometry → Entries → ℕ
 dirty_group_count g m = length (groups_with g (λ e. e.dirty) m)
 
@@ -34,6 +34,6 @@ has_mark BlockMapped e = e.block_mapped
 abbrev pub Owns : Entries → Place → ℕ → Type 0
 Owns m at a = (e : Entry) × (get m a ≡ Some e) × (e.place ≡ at)
 
--- what is told of an address that is held
+-- the place and the mark that are known of a held address
 abbrev pub place_and_mark : Entry → Place × Bool
 place_and_mark e = (e.place, e.dirty)

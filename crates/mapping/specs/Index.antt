@@ -1,4 +1,5 @@
--- What is kept beside the entries: whose each page of the pool is, how many mapped pages each erase block has, and counts.
+-- The index that is kept beside the entries: the owner of each page of the pool, how many mapped pages each erase block
+-- has, and counts.
 use Rattle.std.specs.Prelude.{◌≡◌, ℕ, zero, suc, ◌+◌, ◌<◌, ◌==◌, ◌&&◌, Bool, true, List, map, filter, length, slice_index_or, Option, None, Some}
 use Rattle.std.specs.FinMap.{get, remove, entries}
 use Rattle.ft_base.specs.declared.geometry.Geometry.{Geometry}
@@ -17,7 +18,7 @@ tally test m = length (each_once (map (λ x. x.0) (filter (λ x. test x.1) (entr
 abbrev pub is_any : Entry → Bool
 is_any e = true
 
--- the entry stands in a log block, which is this one
+-- the entry stands in this block, and it is a log block
 abbrev pub is_mapped_in : ℕ → Entry → Bool
 is_mapped_in block e = page_mapped e && (e.place.block == block)
 
@@ -33,19 +34,19 @@ pub record LogsAre (g : Geometry) (m : Entries) (logs : LogCounts) : Type 0 wher
   pub pages : (b : ℕ) → b < g.c + g.l + 1 → slice_index_or logs.pages.items b 0 ≡ tally (is_mapped_in (first_pool g + b)) m
   pub used : logs.used ≡ length (blocks_with page_mapped m)
 
--- all of it is that of these entries
+-- all parts of the index belong to these entries
 pub record IsIndex (g : Geometry) (m : Entries) (index : Index) : Type 0 where
   pub owners : OwnersAre g m index.owners.items
   pub logs : LogsAre g m index.logs
   pub held : index.held ≡ tally is_any m
   pub dirty : index.dirty ≡ tally (λ e. e.dirty) m
 
--- the entries are a map of the geometry, and what is kept beside them is theirs
+-- the entries are a map of the geometry, and the index is theirs
 pub record IsIndexed (g : Geometry) (m : Entries) (kept : Index) : Type 0 where
   pub map : IsMap g m
   pub index : IsIndex g m kept
 
--- the entries without those of so many addresses
+-- the entries without the entries of n addresses from `first` on
 abbrev pub without_range : Entries → ℕ → ℕ → Entries
 without_range m first zero = m
 without_range m first (suc n) = remove (without_range m first n) (first + n)

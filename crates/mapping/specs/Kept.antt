@@ -1,4 +1,4 @@
--- What a map keeps true of its parts.
+-- The facts that a map keeps true of its parts.
 use Rattle.std.specs.Prelude.{◌≡◌, ℕ, ◌≤◌, ◌^◌, List}
 use Rattle.ft_base.specs.declared.geometry.Geometry.{Geometry}
 use Rattle.cache_model.specs.Entries.{IsMap}
@@ -8,7 +8,8 @@ use Rattle.mapping.specs.Candidates.{AreCandidates}
 use Rattle.mapping.specs.Index.{IsIndex}
 use Rattle.mapping.specs.Packed.{HeldValue}
 
--- the entries are a map, what is kept beside them is theirs, and there is the room that is told
+-- the entries are a map, the index and the counts beside them are theirs, and the map has at least the room that it
+-- gives
 pub record KeepsMap (g : Geometry) (held : HeldValue) (kept : Index) (candidates : List ℕ) (dirty blocks pages groups : ℕ) : Type 0 where
   pub geometry : held.geometry ≡ g
   pub is_map : IsMap g held.entries

@@ -1,4 +1,4 @@
--- What the layers above see of a map.
+-- The parts of a map that the layers above see.
 use Rattle.std.specs.Prelude.{ℕ, List, Bool, refl}
 use Rattle.std.specs.FinMap.{code}
 use Rattle.std.specs.Coded.{Coded, code_by, coded×, coded_ℕ, coded_bool}
@@ -9,7 +9,7 @@ use Rattle.ft_base.specs.declared.record.Record.TheVariants.{SetPage, Remove, Cl
 use Rattle.cache_model.specs.declared.entry.Entry.{Entry}
 use Rattle.cache_model.specs.Records.{Entries}
 
--- places, entries and maps of entries, as data that are told apart
+-- places, entries and maps of entries, as data that can be compared
 abbrev pub place_code : Coded Place
 place_code = code_by (ℕ × ℕ) (coded× coded_ℕ coded_ℕ) (λ p. (p.block, p.page)) (λ x. record { block = x.0; page = x.1 }) (λ _. refl)
 
@@ -20,8 +20,8 @@ entry_code = code_by (Place × (Bool × Bool)) (coded× place_code (coded× code
 abbrev pub entries_code : Coded Entries
 entries_code = code coded_ℕ entry_code
 
--- a map of a geometry: its entries, for how many changes of a page and of a group it has room,
--- the records of a checkpoint in its own order, and the buckets of its page-mapped part and of its groups with a data block
+-- a map of a geometry: its entries, and for how many changes of a page and of a group it has room. Also the records of
+-- a checkpoint in its own order, and the buckets of its page-mapped part and of its groups with a data block
 pub record MapValue : Type 0 where
   pub geometry : Geometry
   pub entries : Entries

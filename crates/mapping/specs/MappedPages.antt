@@ -1,4 +1,4 @@
--- What a map keeps of an address that stands in a log block.
+-- The facts that a map keeps of an address in a log block.
 use Rattle.std.specs.Prelude.{◌<◌, Bool}
 use Rattle.ft_base.specs.declared.block.Place.{Place}
 use Rattle.ft_base.specs.declared.geometry.Geometry.{Geometry}
@@ -10,7 +10,7 @@ pub record MappedPage : Type 0 where
   pub place : Place
   pub dirty : Bool
 
--- where a record names a page of a log block, the page's number is one of a block's pages
+-- if a record names a page of a log block, the page's number is one of a block's pages
 abbrev pub NamesPage : Geometry → Record → Type 0
 NamesPage g (SetPage lba place dirty) = place.page < g.p
 NamesPage g (Remove lba) = Unit {0}

@@ -21,11 +21,11 @@ pub record HasNumber (g : Geometry) (m : Entries) (i : ℕ) (x : ℕ × Place) :
   pub owns : Owns m x.1 x.0
   pub number : number_of g x.1 ≡ i
 
--- no entry has a page of the number
+-- no entry has a page with this number
 abbrev pub HasNone : Geometry → Entries → ℕ → Type 0
 HasNone g m i = (a : ℕ) (e : Entry) → get m a ≡ Some e → number_of g e.place ≡ i → ⊥
 
--- each entry has a number of these
+-- each entry has a number below this one
 abbrev pub AreNumbered : Geometry → Entries → ℕ → Type 0
 AreNumbered g m numbers = (a : ℕ) (e : Entry) → get m a ≡ Some e → number_of g e.place < numbers
 
@@ -38,6 +38,6 @@ abbrev pub IsGroupIn : Geometry → Entries → ℕ → ℕ → Type 0
 IsGroupIn g m block group = (a : ℕ) × (e : Entry) × (get m a ≡ Some e) × (e.block_mapped ≡ true) × (e.place.block ≡ block)
     × (a / g.p ≡ group)
 
--- the erase block is no data block
+-- the erase block is not a data block
 abbrev pub IsNoDataBlock : Entries → ℕ → Type 0
 IsNoDataBlock m block = (a : ℕ) (e : Entry) → get m a ≡ Some e → e.block_mapped ≡ true → e.place.block ≡ block → ⊥

@@ -4,7 +4,7 @@ use Rattle.ft_base.specs.declared.geometry.Geometry.{Geometry}
 use Rattle.ft_base.specs.declared.record.Record.{Record}
 use Rattle.ft_base.specs.declared.record.Record.TheVariants.{SetPage, Remove, Clean, SetGroup, RemoveGroup}
 
--- the first of the addresses
+-- the first address that a record changes
 abbrev pub first_of : Geometry → Record → ℕ
 first_of g (SetPage lba place dirty) = lba
 first_of g (Remove lba) = lba
@@ -12,7 +12,7 @@ first_of g (Clean lba) = lba
 first_of g (SetGroup group block present dirty) = group * g.p
 first_of g (RemoveGroup group) = group * g.p
 
--- how many they are
+-- how many addresses a record changes
 abbrev pub count_of : Geometry → Record → ℕ
 count_of g (SetPage lba place dirty) = 1
 count_of g (Remove lba) = 1
@@ -20,7 +20,7 @@ count_of g (Clean lba) = 1
 count_of g (SetGroup group block present dirty) = g.p
 count_of g (RemoveGroup group) = g.p
 
--- the group that they are of
+-- the group of these addresses
 abbrev pub group_of : Geometry → Record → ℕ
 group_of g (SetPage lba place dirty) = lba / g.p
 group_of g (Remove lba) = lba / g.p

@@ -1,4 +1,4 @@
--- What is looked for among the entries: in an erase block, or in a group.
+-- The entries that are looked for: in an erase block, or in a group.
 use Rattle.std.specs.Prelude.{◌≡◌, ℕ, ◌/◌, ◌<◌, ◌==◌, ◌&&◌, ◌⊎◌, Bool, true, false, not, length, Option, None, Some, if◌then◌else◌}
 use Rattle.std.specs.FinMap.{get}
 use Rattle.ft_base.specs.declared.geometry.Geometry.{Geometry}
@@ -11,7 +11,7 @@ use Rattle.mapping.specs.declared.seeking.Sought.{Sought}
 use Rattle.mapping.specs.declared.seeking.Sought.TheVariants.{Any, Mapped, MappedBeside, Outside}
 use Rattle.mapping.specs.Counts.{has_mark}
 
--- the entry of an address is one of those that are looked for
+-- the entry of an address is one of the entries that are looked for
 abbrev pub seeks : Geometry → Sought → ℕ → Entry → Bool
 seeks g Any a e = true
 seeks g Mapped a e = e.block_mapped
@@ -32,7 +32,7 @@ IsFoundAt g sought m at a = (e : Entry) × (get m a ≡ Some e) × (e.place ≡ 
 abbrev pub IsNotAt : Geometry → Sought → Entries → Place → Type 0
 IsNotAt g sought m at = (a : ℕ) (e : Entry) → get m a ≡ Some e → e.place ≡ at → seeks g sought a e ≡ true → ⊥
 
--- another address has the page
+-- another address than `lba` has the page
 abbrev pub IsTaken : Entries → ℕ → Place → Type 0
 IsTaken m lba at = (a : ℕ) × (e : Entry) × (get m a ≡ Some e) × (a ≡ lba → ⊥) × (e.place ≡ at)
 
@@ -44,7 +44,8 @@ HasMarkAt m mark a = (e : Entry) × (get m a ≡ Some e) × (has_mark mark e ≡
 abbrev pub HasMarkIn : Geometry → Entries → Mark → ℕ → Type 0
 HasMarkIn g m mark group = (a : ℕ) × (a / g.p ≡ group) × HasMarkAt m mark a
 
--- this group may have the mark or not: with it, fewer than C groups have it, or this one does already
+-- this group may come to have the mark or not: it may have it if fewer than C groups have the mark, or this one already
+-- does
 abbrev pub MayHave : Geometry → Entries → Mark → ℕ → Bool → Type 0
 MayHave g m mark group has = (has ≡ false) ⊎ ((length (groups_with g (has_mark mark) m) < g.c) ⊎ HasMarkIn g m mark group)
 

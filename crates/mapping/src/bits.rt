@@ -1,4 +1,4 @@
-//! Which pages of a group a set of them is made of.
+//! The choices by which a set of pages of a group is made.
 ghost use Rattle.std.specs.Prelude.{◌≡◌};
 
 use cache_model::Entry;
@@ -6,13 +6,13 @@ use cache_model::Entry;
 /// Which pages of a group are chosen.
 #[derive(Clone, Copy, Debug, PartialEq, Eq)]
 pub enum Choice {
-    /// Those whose address is held.
+    /// Pages whose address is held.
     Held,
-    /// Those whose address is dirty.
+    /// Pages whose address is dirty.
     Dirty,
-    /// Those in the data block of the group.
+    /// Pages in the data block of the group.
     Mapped,
-    /// Those in the data block whose address is dirty.
+    /// Pages in the data block whose address is dirty.
     MappedDirty,
 }
 

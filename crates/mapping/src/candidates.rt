@@ -1,5 +1,5 @@
-//! The data blocks of the groups that may give way, kept with each change, so that a choice among them looks at the
-//! entries of one erase block alone.
+//! The data blocks of the groups that may give way. They are kept up to date with each change, so that a choice among
+//! them looks only at the entries of one erase block.
 ghost use Rattle.std.specs.Prelude.{◌≡◌, ◌<◌, ◌≤◌, ◌-◌, ◌+◌, ℕ, IfOk, IfSome, slice_set, length, vec_len};
 ghost use Rattle.std.specs.Vec.{vec_capacity};
 ghost use Rattle.ft_base.specs.Layout.{first_pool, blocks};
@@ -10,22 +10,23 @@ use block_map::BlockAt;
 use ft_base::Geometry;
 use std::alloc::{AllocError, Global};
 
-/// How many pages of the data block of each group that may give way are held.
+/// How many pages are held in the data block of each group that may give way.
 #[derive(Drop)]
 pub struct Candidates {
-    /// By erase block, from the first one of the pool on: 1 to P, and 65,535 where it is no such data block.
+    /// By erase block, from the first one of the pool on: 1 to P for such a data block, and 65,535 for any other block.
     pub counts: Vec<u16>,
     ghost counts_fit: { vec_capacity counts ≡ vec_len counts },
 }
 
 impl Candidates {
-    /// Those of no entries.
+    /// The candidates of no entries.
     pub fn new(alloc: Global, geometry: &Geometry) -> Result<Candidates, AllocError>
         ensures { IfOk result (λ candidates. AreCandidates geometry.now no_entries candidates.counts.items) }
     {
         let blocks = geometry.c + geometry.l + 1;
         let counts = vec![in alloc; u16::MAX; blocks as usize]?;
-        // What `vec!` makes has no more memory, but it doesn't promise that: a longer list passes for none.
+        // The list that `vec!` makes has no more memory, but `vec!` doesn't promise that. So a longer list counts as
+        // out of memory.
         if counts.capacity() > counts.len() {
             return Err(AllocError);
         }
@@ -39,7 +40,7 @@ impl Candidates {
         self.counts.as_slice()
     }
 
-    /// Takes note of a change of one group: of its data block before and now, and of whether it has a dirty page now.
+    /// Takes note of a change of one group: its data block before and now, and whether it has a dirty page now.
     pub fn note(
         &mut self,
         geometry: &Geometry,
@@ -65,7 +66,7 @@ impl Candidates {
         }
     }
 
-    /// Takes a data block, if there is one, for none that may give way.
+    /// Notes that a data block, if there is one, may not give way.
     fn forget(&mut self, geometry: &Geometry, before: Option<BlockAt>)
         requires pool { IfSome before (StandsInPool geometry.now) }
         requires long { length self.old.counts.items ≡ geometry.now.c + geometry.now.l + 1 }
@@ -77,7 +78,7 @@ impl Candidates {
         }
     }
 
-    /// Puts in the count of an erase block of the pool.
+    /// Sets the count of an erase block of the pool.
     fn put(&mut self, geometry: &Geometry, block: u32, count: u16)
         requires above { first_pool geometry.now ≤ block }
         requires below { block < blocks geometry.now }

@@ -10,7 +10,7 @@ use block_map::BlockAt;
 use ft_base::Record;
 use sparse_map::SparseMap;
 
-/// Puts record number `at` where it belongs, if the window from number `from` on has it.
+/// Puts record number `at` into its place, if the window from number `from` on has it.
 fn offer(out: &mut [Record], from: usize, at: usize, change: Record)
     ensures window { (records : List RecordValue) → length records ≡ at → HasWindow records from out.old
         → HasWindow (records ++ change ∷ []) from out.new }
@@ -20,7 +20,7 @@ fn offer(out: &mut [Record], from: usize, at: usize, change: Record)
     }
 }
 
-/// Whether the window from number `from` on lies before or after all of so many records that follow the first ones.
+/// Whether the window from number `from` on lies before or after all of `count` records that follow `before` others.
 fn is_outside(out: &[Record], from: usize, before: usize, count: usize) -> bool
     requires { before + count < 2 ^ 64 }
     ensures outside { result ≡ true → (before + count ≤ from) ⊎ (from + length out.now ≤ before) }
@@ -29,7 +29,7 @@ fn is_outside(out: &[Record], from: usize, before: usize, count: usize) -> bool
     before + count <= from || before >= from && before - from >= out.len()
 }
 
-/// What sets a page of a log block.
+/// The record that sets a page of a log block.
 fn page_record(item: &(u64, PageAt)) -> Record
     ensures { result ≡ page_record item.now }
 {
@@ -40,7 +40,7 @@ fn page_record(item: &(u64, PageAt)) -> Record
     }
 }
 
-/// What sets a data block.
+/// The record that sets a data block.
 fn block_record(item: &(u64, BlockAt)) -> Record
     ensures { result ≡ block_record item.now }
 {
@@ -52,7 +52,7 @@ fn block_record(item: &(u64, BlockAt)) -> Record
     }
 }
 
-/// Offers the records of these mapped pages, which come after so many others.
+/// Offers the records of these mapped pages, which come after `before` others.
 fn offer_pages(items: &[(u64, PageAt)], before: usize, from: usize, out: &mut [Record])
     requires { before + length items.now < 2 ^ 64 }
     ensures { (records : List RecordValue) → length records ≡ before → HasWindow records from out.old
@@ -68,7 +68,7 @@ fn offer_pages(items: &[(u64, PageAt)], before: usize, from: usize, out: &mut [R
     }
 }
 
-/// Offers the records of these data blocks, which come after so many others.
+/// Offers the records of these data blocks, which come after `before` others.
 fn offer_blocks(items: &[(u64, BlockAt)], before: usize, from: usize, out: &mut [Record])
     requires { before + length items.now < 2 ^ 64 }
     ensures { (records : List RecordValue) → length records ≡ before → HasWindow records from out.old
@@ -84,7 +84,7 @@ fn offer_blocks(items: &[(u64, BlockAt)], before: usize, from: usize, out: &mut 
     }
 }
 
-/// Offers the records of all mapped pages, which come after so many others.
+/// Offers the records of all mapped pages, which come after `before` others.
 pub fn offer_all_pages(
     pages: &SparseMap<PageAt>,
     before: usize,
@@ -105,7 +105,7 @@ pub fn offer_all_pages(
     at
 }
 
-/// Offers the records of all data blocks, which come after so many others.
+/// Offers the records of all data blocks, which come after `before` others.
 pub fn offer_all_blocks(
     blocks: &SparseMap<BlockAt>,
     before: usize,

@@ -32,7 +32,7 @@ fn own_log_block(held: &Held, lba: u64) -> Option<u32>
     }
 }
 
-/// How many mapped pages an erase block has beside that of the address.
+/// How many mapped pages an erase block has beside the page of the address.
 fn count_beside(held: &Held, index: &Index, geometry: &Geometry, lba: u64, block: u32) -> u32
     requires above { first_pool geometry.now ≤ block }
     requires below { block < blocks geometry.now }
@@ -46,7 +46,7 @@ fn count_beside(held: &Held, index: &Index, geometry: &Geometry, lba: u64, block
     }
 }
 
-/// How many blocks have mapped pages beside that of the address.
+/// How many blocks have mapped pages beside the page of the address.
 fn count_used_beside(held: &Held, index: &Index, geometry: &Geometry, lba: u64) -> u32
     requires indexed { IsIndexed geometry.now held.now.entries index.now }
     ensures { result ≡ length (blocks_with page_mapped (remove held.now.entries lba)) }
@@ -60,7 +60,7 @@ fn count_used_beside(held: &Held, index: &Index, geometry: &Geometry, lba: u64) 
     index.logs.used
 }
 
-/// How many log blocks there would be, with the block of the address at this place of the pool.
+/// How many log blocks there would be if the block of the address stood at this place of the pool.
 fn count_log_blocks(held: &Held, index: &Index, geometry: &Geometry, lba: u64, at: Place) -> u32
     requires pool { InPool geometry.now at }
     requires indexed { IsIndexed geometry.now held.now.entries index.now }
@@ -73,7 +73,7 @@ fn count_log_blocks(held: &Held, index: &Index, geometry: &Geometry, lba: u64, a
     used
 }
 
-/// Whether a page of a log block may have the block of an address. So many groups are dirty now.
+/// Whether a page of a log block may have the block of an address. `dirty_groups` groups are dirty now.
 pub fn fits_page(
     held: &Held,
     index: &Index,

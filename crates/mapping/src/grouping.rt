@@ -26,7 +26,7 @@ fn has_page(geometry: &Geometry, set: PageSet) -> bool
     false
 }
 
-/// Whether a set has no pages but those of an erase block.
+/// Whether a set has only pages of an erase block.
 fn is_set_below(geometry: &Geometry, set: PageSet) -> bool
     ensures { IsTrue result ↔ (set < 2 ^ geometry.now.p) }
 {
@@ -79,8 +79,8 @@ fn may_come(
     ends_below_size(geometry, group, present)
 }
 
-/// Whether an erase block may become the data block of a group, with these pages. So many groups are
-/// dirty now, and so many have a data block.
+/// Whether an erase block may become the data block of a group, with these pages. `dirty_groups` groups are dirty now,
+/// and `data_blocks` groups have a data block.
 pub fn fits_group(
     held: &Held,
     index: &Index,
@@ -121,7 +121,7 @@ pub fn fits_group(
     may_have(held, geometry, dirty_groups, mark, group, near, marked)
 }
 
-/// Whether a change may come next.
+/// Whether a change may be applied next.
 pub fn fits(
     held: &Held,
     index: &Index,

@@ -1,4 +1,4 @@
-//! The entries in two packed maps: those in log blocks by address, and the data blocks by group.
+//! The entries in two packed maps: log blocks' entries by address, and data blocks by group.
 ghost use Rattle.std.specs.Prelude.{◌≡◌, ◌<◌, ◌≤◌, ◌+◌, ◌-◌, ◌*◌, ◌/◌, ◌%◌, ◌^◌, ◌==◌, ℕ, None, false, length, max, IfSome, IfNone, OnOk, OnErr, if◌then◌else◌};
 ghost use Rattle.std.specs.FinMap as map;
 ghost use Rattle.cache_model.specs.Records.{no_entries, after, has_bit};
@@ -93,7 +93,7 @@ impl Held {
         block_at(&self.blocks, group)
     }
 
-    /// Makes room for so many new mapped pages.
+    /// Makes room for `pages` new mapped pages.
     pub fn reserve_pages(&mut self, pages: u32) -> Result<(), AllocError>
         requires { length (map.entries self.old.entries) + pages ≤ 2 ^ 30 }
         ensures geometry { self.new.geometry ≡ self.old.geometry }
@@ -107,7 +107,7 @@ impl Held {
         self.pages.reserve(pages)
     }
 
-    /// Makes room for so many new data blocks.
+    /// Makes room for `blocks` new data blocks.
     pub fn reserve_blocks(&mut self, blocks: u32) -> Result<(), AllocError>
         requires { length (map.entries self.old.entries) + blocks ≤ 2 ^ 30 }
         ensures geometry { self.new.geometry ≡ self.old.geometry }
@@ -194,8 +194,8 @@ impl Held {
         let _ = self.blocks.remove(group);
     }
 
-    /// The buckets of the mapped pages: none, or a power of two from 32 on, of which at least a
-    /// quarter is free.
+    /// The buckets of the mapped pages: none, or a power of two that is at least 32. At least a quarter of them is
+    /// free.
     pub fn buckets(&self) -> u64
         ensures count { result ≡ self.now.buckets }
         ensures bound { AreBucketsFor self.now.entries result }

@@ -1,5 +1,5 @@
-//! What is kept beside the entries, so that none of it is counted or looked for anew: whose each page of
-//! the pool is, how many mapped pages each erase block has, and how many entries there are.
+//! The index beside the entries, so that none of it is counted or looked for anew. It has the owner of each page of the
+//! pool, how many mapped pages each erase block has, and how many entries there are.
 ghost use Rattle.std.specs.Prelude.{◌≡◌, Some, None, IfOk, vec_len, slice_index_or, if◌then◌else◌};
 ghost use Rattle.std.specs.Vec.{vec_capacity};
 ghost use Rattle.std.specs.FinMap.{get, remove};
@@ -17,12 +17,12 @@ use std::alloc::{AllocError, Global};
 pub struct LogCounts {
     /// By erase block, from the first one of the pool on.
     pub pages: Vec<u32>,
-    /// The blocks that have some.
+    /// How many blocks have some.
     pub used: u32,
     ghost pages_fit: { vec_capacity pages ≡ vec_len pages },
 }
 
-/// What is kept beside the entries.
+/// The index that is kept beside the entries.
 #[derive(Drop)]
 pub struct Index {
     /// The address whose block each page of the pool has, by the page's number.
@@ -36,7 +36,7 @@ pub struct Index {
     ghost owners_fit: { vec_capacity owners ≡ vec_len owners },
 }
 
-/// One where something is so, and else none.
+/// 1 if the fact holds, and else 0.
 fn bit(is_so: bool) -> u32
     ensures { result ≡ (if is_so then 1 else 0) }
 {
@@ -46,7 +46,7 @@ fn bit(is_so: bool) -> u32
 impl LogCounts {
     ghost use Rattle.mapping.specs.Index.{LogsAre};
 
-    /// Takes note that the entry of an address goes.
+    /// Takes note that the entry of an address is removed.
     fn leave(&mut self, geometry: &Geometry, lba: u64, entry: &Entry)
         requires { (m : Entries) × IsMap geometry.now m × LogsAre geometry.now m self.old × (get m lba ≡ Some entry.now) }
         ensures { (m : Entries) → IsMap geometry.now m → LogsAre geometry.now m self.old → get m lba ≡ Some entry.now
@@ -63,7 +63,7 @@ impl LogCounts {
         }
     }
 
-    /// Takes note that the entry of an address comes.
+    /// Takes note that the entry of an address is added.
     fn enter(&mut self, geometry: &Geometry, lba: u64, entry: &Entry)
         requires { (m : Entries) × IsMap geometry.now m × LogsAre geometry.now (remove m lba) self.old × (get m lba ≡ Some entry.now) }
         ensures { (m : Entries) → IsMap geometry.now m → LogsAre geometry.now (remove m lba) self.old → get m lba ≡ Some entry.now
@@ -84,14 +84,15 @@ impl LogCounts {
 impl Index {
     ghost use Rattle.mapping.specs.Index.{IsIndex};
 
-    /// That of no entries.
+    /// The index of no entries.
     pub fn new(alloc: Global, geometry: &Geometry) -> Result<Index, AllocError>
         ensures { IfOk result (IsIndex geometry.now no_entries) }
     {
         let blocks = geometry.c + geometry.l + 1;
         let owners = vec![in alloc; None; pool_pages(geometry) as usize]?;
         let pages = vec![in alloc; 0; blocks as usize]?;
-        // What `vec!` makes has no more memory, but it doesn't promise that: longer lists pass for none.
+        // The lists that `vec!` makes have no more memory, but `vec!` doesn't promise that. So longer lists count as
+        // out of memory.
         if owners.capacity() > owners.len() || pages.capacity() > pages.len() {
             return Err(AllocError);
         }
@@ -114,7 +115,7 @@ impl Index {
         }
     }
 
-    /// Takes note that the entry of an address goes.
+    /// Takes note that the entry of an address is removed.
     pub fn leave(&mut self, geometry: &Geometry, lba: u64, entry: &Entry)
         requires { (m : Entries) × IsMap geometry.now m × IsIndex geometry.now m self.old × (get m lba ≡ Some entry.now) }
         ensures { (m : Entries) → IsMap geometry.now m → IsIndex geometry.now m self.old → get m lba ≡ Some entry.now
@@ -126,7 +127,7 @@ impl Index {
         self.dirty -= bit(entry.dirty);
     }
 
-    /// Takes note that the entry of an address comes.
+    /// Takes note that the entry of an address is added.
     pub fn enter(&mut self, geometry: &Geometry, lba: u64, entry: &Entry)
         requires { (m : Entries) × IsMap geometry.now m × IsIndex geometry.now (remove m lba) self.old × (get m lba ≡ Some entry.now) }
         ensures { (m : Entries) → IsMap geometry.now m → IsIndex geometry.now (remove m lba) self.old → get m lba ≡ Some entry.now

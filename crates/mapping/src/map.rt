@@ -29,7 +29,7 @@ use ft_base::{Geometry, Place, Record};
 use std::alloc::{AllocError, Global};
 use std::marker::Model;
 
-/// Which page of the flash has the block of each address that is held.
+/// Which page of the flash has the block of each held address.
 #[derive(Drop)]
 pub struct Map {
     geometry: Geometry,
@@ -68,7 +68,7 @@ impl Model for Map {
 }
 
 impl Map {
-    /// A map of no entries, with no room and no bucket.
+    /// A map without entries, with no room and no bucket.
     pub fn new(alloc: Global, geometry: &Geometry) -> Result<Map, AllocError>
         ensures geometry { IfOk result (λ m. m.geometry ≡ geometry.now) }
         ensures entries { IfOk result (λ m. m.entries ≡ no_entries) }
@@ -108,8 +108,8 @@ impl Map {
         pool_pages(&self.geometry)
     }
 
-    /// The entry of number `i`, in the order of the pool's pages: the address and its page. None where
-    /// no entry has the number.
+    /// The entry of number `i`, in the order of the pool's pages: the address and its page. `None` if no entry has the
+    /// number.
     pub fn nth(&self, i: u32) -> Option<(u64, Place)>
         ensures some { IfSome result (HasNumber self.now.geometry self.now.entries i) }
         ensures none { IfNone result (HasNone self.now.geometry self.now.entries i) }
@@ -149,7 +149,7 @@ impl Map {
         found_in(&self.held, &self.index, &self.geometry, Sought::Any, block).is_none()
     }
 
-    /// The group whose data block an erase block is. None where it is no data block.
+    /// The group whose data block an erase block is. `None` if it is not a data block.
     pub fn group_in(&self, block: u32) -> Option<u64>
         ensures some { IfSome result (IsGroupIn self.now.geometry self.now.entries block) }
         ensures none { IfNone result (IsNoDataBlock self.now.entries block) }
@@ -172,8 +172,8 @@ impl Map {
         }
     }
 
-    /// Whether a change may come next: exactly where it names only addresses, groups and pages of this geometry, and
-    /// leaves a map of it.
+    /// Whether a change may be applied next. It may if it names only addresses, groups and pages of this geometry, and
+    /// leaves a map of it, and only then.
     pub fn fits(&self, change: &Record) -> bool
         ensures { IsTrue result ↔ Fits self.now.geometry change.now self.now.entries }
     {
@@ -187,9 +187,9 @@ impl Map {
         )
     }
 
-    /// Makes room for so many changes of a page and of a group: the buckets double just as often as the entries and
-    /// that room ask, from 32 where there were none. Refused, the entries and the room are as before, though the
-    /// page-mapped part may have got its buckets.
+    /// Makes room for `pages` changes of a page and `groups` changes of a group. The buckets double as often as the
+    /// entries and that room ask, and no oftener; they start from 32 if there are none. On `Err` the entries and the
+    /// room are unchanged, though the page-mapped part may have got its buckets.
     pub fn reserve(&mut self, pages: u32, groups: u32) -> Result<(), AllocError>
         requires pages { pages ≤ 2 ^ 20 }
         requires groups { groups ≤ 2 ^ 20 }
@@ -214,7 +214,7 @@ impl Map {
         Ok(())
     }
 
-    /// The step of a change that fits, for which there is room.
+    /// Applies a change that fits and has room.
     pub fn apply(&mut self, change: &Record)
         requires fits { Fits self.old.geometry change.now self.old.entries }
         requires pages { pages_taken change.now ≤ self.old.spare_pages }
@@ -241,8 +241,8 @@ impl Map {
         self.spare_groups -= taken_groups(change);
     }
 
-    /// For each erase block of the pool, from the first one on: how many pages of it are held, where it is
-    /// the data block of a group of which nothing is dirty; and 65,535 for every other one.
+    /// A number for each erase block of the pool, from the first one on. For the data block of a group with no dirty
+    /// address it is how many of its pages are held. For every other block it is 65,535.
     pub fn candidates(&self) -> &[u16]
         ensures candidates { AreCandidates self.now.geometry self.now.entries result.now }
         ensures is_map { IsMap self.now.geometry self.now.entries }
@@ -281,8 +281,8 @@ impl Map {
         self.data_blocks
     }
 
-    /// The data block of a group, with its present and its dirty pages: none where no address of the
-    /// group stands in a data block.
+    /// The data block of a group, with its present and its dirty pages. `None` if no address of the group stands in a
+    /// data block.
     pub fn block_of(&self, group: u64) -> Option<BlockAt>
         ensures some { IfSome result (IsDataBlock self.now.geometry self.now.entries group) }
         ensures none { IfNone result (chosen_of Mapped self.now.geometry self.now.entries group ≡ 0) }
@@ -314,8 +314,8 @@ impl Map {
         self.held.checkpoint_len() as u32
     }
 
-    /// Puts the records of a checkpoint to the front of `out`, from number `from` on, as far as they
-    /// or the room goes, and says how many. Their order stays while the map isn't changed.
+    /// Puts the records of a checkpoint at the front of `out`, from number `from` on, as far as they or `out` go, and
+    /// says how many. Their order stays while the map isn't changed.
     pub fn checkpoint_part(&self, from: u32, out: &mut [Record]) -> u32
         requires { from ≤ length self.now.records }
         ensures count { result ≡ min (length out.old) (length self.now.records - from) }
@@ -335,8 +335,8 @@ impl Map {
         self.index.logs.used
     }
 
-    /// The buckets of the page-mapped part: none, or a power of two from 32 on, of which at least a
-    /// quarter is free.
+    /// The buckets of the page-mapped part: none, or a power of two that is at least 32. At least a quarter of them is
+    /// free.
     pub fn buckets(&self) -> u64
         ensures count { result ≡ self.now.buckets }
         ensures bound { AreBucketsFor self.now.entries result }

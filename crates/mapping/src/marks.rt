@@ -1,4 +1,4 @@
-//! What may be said of an entry, and whether a group has an entry of which it is said.
+//! The marks that an entry may have, and whether a group has an entry with a mark.
 ghost use Rattle.std.specs.Prelude.{◌≡◌, ◌<◌, ◌≤◌, ◌+◌, ◌-◌, ◌*◌, ◌/◌, ◌^◌, ◌↔◌, IsTrue, length, true, if◌then◌else◌};
 ghost use Rattle.cache_model.specs.Entries.{groups_with};
 ghost use Rattle.mapping.specs.Counts.{has_mark};
@@ -9,7 +9,7 @@ use crate::held::Held;
 use cache_model::Entry;
 use ft_base::Geometry;
 
-/// What may be said of an entry, and counted by groups.
+/// A mark that an entry may have, counted by groups.
 #[derive(Clone, Copy, Debug, PartialEq, Eq)]
 pub enum Mark {
     /// The disk lacks the block.
@@ -28,7 +28,7 @@ fn is_dirty(held: &Held, lba: u64) -> bool
     }
 }
 
-/// Whether a group has a dirty entry. The address that is named is looked at first.
+/// Whether a group has a dirty entry. It looks first at the address `near`.
 fn is_dirty_group(held: &Held, geometry: &Geometry, group: u64, near: u64) -> bool
     requires group { group ≤ (geometry.now.size - 1) / geometry.now.p }
     requires near { near / geometry.now.p ≡ group }
@@ -46,7 +46,7 @@ fn is_dirty_group(held: &Held, geometry: &Geometry, group: u64, near: u64) -> bo
     false
 }
 
-/// Whether a group has an entry with the mark. For a dirty one the address that is named is looked at first.
+/// Whether a group has an entry with the mark. For the dirty mark it looks first at the address `near`.
 pub fn has_mark(held: &Held, geometry: &Geometry, mark: Mark, group: u64, near: u64) -> bool
     requires geometry { held.now.geometry ≡ geometry.now }
     requires group { group ≤ (geometry.now.size - 1) / geometry.now.p }
@@ -59,8 +59,8 @@ pub fn has_mark(held: &Held, geometry: &Geometry, mark: Mark, group: u64, near: 
     }
 }
 
-/// Whether this group may have the mark or not from now on: without it always, with it where fewer than C groups
-/// have it, or this one does. So many have it now.
+/// Whether this group may come to have the mark, or not to have it. It may always be without it. It may have it if
+/// fewer than C groups have it, or this one already does. `now` groups have it now.
 pub fn may_have(
     held: &Held,
     geometry: &Geometry,
@@ -85,7 +85,8 @@ pub fn may_have(
     has_mark(held, geometry, mark, group, near)
 }
 
-/// How many groups have a mark, where one of them had it or not, and has it now or not.
+/// How many groups have a mark after a change of one of them: `had` says whether it had the mark, and `has` whether it
+/// has it now.
 pub fn recount(now: u32, had: bool, has: bool) -> u32
     requires some { had ≡ true → 1 ≤ now }
     requires few { now ≤ 2 ^ 20 }

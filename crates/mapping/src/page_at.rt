@@ -1,11 +1,11 @@
-//! A page of a log block that has the block of an address, in the few bytes that a map keeps of it.
+//! A page of a log block that has the block of an address, in the few bytes that a map keeps for it.
 ghost use Rattle.std.specs.Prelude.{◌≡◌, ◌<◌, ◌^◌, false};
 
 use ft_base::Place;
 use std::marker::Model;
 use std::mem::size_of;
 
-// With its address an entry takes 16 bytes.
+// Together with its address an entry takes 16 bytes.
 const _: [(); 16] = [(); size_of::<(u64, PageAt)>()];
 
 /// Where the block of an address stands in a log block, and whether the disk lacks it.
@@ -39,7 +39,7 @@ impl PageAt {
         }
     }
 
-    /// Where it stands.
+    /// The place of the page.
     pub fn place(&self) -> Place
         ensures { result ≡ self.now.place }
     {
@@ -56,7 +56,7 @@ impl PageAt {
         self.dirty
     }
 
-    /// The same, once the disk has the block.
+    /// The same page, once the disk has the block.
     pub fn cleaned(&self) -> PageAt
         ensures { result ≡ record { place = self.now.place; dirty = false } }
     {

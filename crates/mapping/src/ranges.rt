@@ -1,4 +1,4 @@
-//! The addresses that a change is of, and the note that is taken of them.
+//! The addresses that a change concerns, and the note that is taken of them.
 ghost use Rattle.std.specs.Prelude.{◌≡◌, ◌<◌, ◌≤◌, ◌+◌, ◌-◌, ◌/◌, ◌^◌};
 ghost use Rattle.cache_model.specs.Records.{after};
 ghost use Rattle.cache_model.specs.Entries.{IsMap, IsInReach, Fits};
@@ -12,7 +12,7 @@ use crate::index::Index;
 use crate::steps::step;
 use ft_base::{Geometry, Record};
 
-/// The first of the addresses that a change is of.
+/// The first address that a change concerns.
 pub fn first_of(geometry: &Geometry, change: &Record) -> u64
     requires { IsInReach geometry.now change.now }
     ensures first { result ≡ first_of geometry.now change.now }
@@ -28,7 +28,7 @@ pub fn first_of(geometry: &Geometry, change: &Record) -> u64
     }
 }
 
-/// How many addresses a change is of.
+/// How many addresses a change concerns.
 pub fn count_of(geometry: &Geometry, change: &Record) -> u32
     ensures { result ≡ count_of geometry.now change.now }
 {
@@ -41,7 +41,7 @@ pub fn count_of(geometry: &Geometry, change: &Record) -> u32
     }
 }
 
-/// The group that a change is of.
+/// The group that a change concerns.
 pub fn group_of(geometry: &Geometry, change: &Record) -> u64
     requires { IsInReach geometry.now change.now }
     ensures group { result ≡ group_of geometry.now change.now }
@@ -56,7 +56,7 @@ pub fn group_of(geometry: &Geometry, change: &Record) -> u64
     }
 }
 
-/// Takes note that the entries of so many addresses go.
+/// Takes note that the entries of `count` addresses are removed.
 pub fn leave_all(index: &mut Index, held: &Held, geometry: &Geometry, first: u64, count: u32)
     requires end { first + count < 2 ^ 64 }
     requires map { IsMap geometry.now held.now.entries }
@@ -68,7 +68,7 @@ pub fn leave_all(index: &mut Index, held: &Held, geometry: &Geometry, first: u64
     }
 }
 
-/// Takes note that the entry of one address more goes.
+/// Takes note that the entry of one more address is removed.
 fn leave_next(index: &mut Index, held: &Held, geometry: &Geometry, first: u64, done: u32)
     requires end { first + done < 2 ^ 64 }
     requires map { IsMap geometry.now held.now.entries }
@@ -82,7 +82,7 @@ fn leave_next(index: &mut Index, held: &Held, geometry: &Geometry, first: u64, d
     }
 }
 
-/// Takes note that the entries of so many addresses come.
+/// Takes note that the entries of `count` addresses are added.
 pub fn enter_all(index: &mut Index, held: &Held, geometry: &Geometry, first: u64, count: u32)
     requires end { first + count < 2 ^ 64 }
     requires map { IsMap geometry.now held.now.entries }
@@ -94,7 +94,7 @@ pub fn enter_all(index: &mut Index, held: &Held, geometry: &Geometry, first: u64
     }
 }
 
-/// Takes note that the entry of the last address that is left comes.
+/// Takes note that the entry of the last address that is left is added.
 fn enter_next(index: &mut Index, held: &Held, geometry: &Geometry, first: u64, left: u32)
     requires end { first + left < 2 ^ 64 }
     requires map { IsMap geometry.now held.now.entries }
@@ -108,7 +108,7 @@ fn enter_next(index: &mut Index, held: &Held, geometry: &Geometry, first: u64, l
     }
 }
 
-/// The step of a change of the entries, and the note that is taken of it. There is room for what it takes.
+/// Applies a change to the entries, and takes note of it. There is room for the entries that it adds.
 pub fn change_entries(held: &mut Held, index: &mut Index, geometry: &Geometry, change: &Record)
     requires geometry { held.old.geometry ≡ geometry.now }
     requires fits { Fits geometry.now change.now held.old.entries }

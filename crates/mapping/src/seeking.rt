@@ -1,4 +1,4 @@
-//! What is looked for at one page, or in one erase block, page after page.
+//! The entries that are looked for at one page, or in one erase block, page after page.
 ghost use Rattle.std.specs.Prelude.{◌≡◌, ◌<◌, ◌≤◌, IfSome, IfNone, IsTrue, ◌↔◌, ◌/◌, true};
 ghost use Rattle.ft_base.specs.Layout.{first_pool, blocks};
 ghost use Rattle.cache_model.specs.Entries.{InPool};
@@ -13,23 +13,23 @@ use ft_base::{Geometry, Place};
 /// Which entries are looked for.
 #[derive(Clone, Copy, Debug, PartialEq, Eq)]
 pub enum Sought {
-    /// Any.
+    /// Any entry.
     Any,
-    /// Those of a data block.
+    /// Entries of a data block.
     Mapped,
-    /// Those of a data block, but that of an address.
+    /// Entries of a data block, except the entry of an address.
     MappedBeside {
         /// The address.
         lba: u64,
     },
-    /// Those of other groups.
+    /// Entries of other groups.
     Outside {
         /// The group.
         group: u64,
     },
 }
 
-/// Whether the entry of an address is one of them.
+/// Whether the entry of an address is one of the sought entries.
 fn is_sought(geometry: &Geometry, sought: Sought, lba: u64, entry: &Entry) -> bool
     ensures { result ≡ seeks geometry.now sought lba entry.now }
 {
@@ -41,7 +41,7 @@ fn is_sought(geometry: &Geometry, sought: Sought, lba: u64, entry: &Entry) -> bo
     }
 }
 
-/// The address of such an entry at a page.
+/// The address of a sought entry at a page.
 fn found_at(
     held: &Held,
     index: &Index,
@@ -69,7 +69,7 @@ fn found_at(
     }
 }
 
-/// The address of such an entry in an erase block of the pool.
+/// The address of a sought entry in an erase block of the pool.
 pub fn found_in(
     held: &Held,
     index: &Index,
@@ -92,7 +92,7 @@ pub fn found_in(
     None
 }
 
-/// Whether another address has a page of the pool. The index tells it: only the clauses name the entries.
+/// Whether another address has a page of the pool. The index says so; only the clauses name the entries.
 pub fn is_taken(held: &Held, index: &Index, geometry: &Geometry, lba: u64, at: Place) -> bool
     requires pool { InPool geometry.now at }
     requires indexed { IsIndexed geometry.now held.now.entries index.now }

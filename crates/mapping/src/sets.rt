@@ -24,7 +24,7 @@ fn chosen(held: &Held, geometry: &Geometry, choice: Choice, group: u64) -> PageS
     set
 }
 
-/// The set of the chosen pages of any group: of none past the volume's size.
+/// The set of the chosen pages of any group. It is empty for a group past the volume's size.
 pub fn chosen_any(held: &Held, geometry: &Geometry, choice: Choice, group: u64) -> PageSet
     requires { IsMap geometry.now held.now.entries }
     ensures { result ≡ chosen_of choice geometry.now held.now.entries group }

@@ -1,4 +1,4 @@
-//! What a record makes of the entries.
+//! The changes that a record makes to the entries.
 ghost use Rattle.std.specs.Prelude.{◌≡◌, ◌<◌, ◌≤◌, ◌+◌, ◌-◌, ◌/◌, ◌^◌};
 ghost use Rattle.ft_base.specs.declared.record.Record.TheVariants.{SetPage, SetGroup};
 ghost use Rattle.cache_model.specs.Records.{after};
@@ -12,7 +12,7 @@ use block_map::BlockAt;
 use block_map::page_set::PageSet;
 use ft_base::{Place, Record};
 
-/// The step of a record. There is room for what it takes.
+/// Applies a record. There is room for the entries that it adds.
 pub fn step(held: &mut Held, change: &Record)
     requires reach { IsInReach held.old.geometry change.now }
     requires page { NamesPage held.old.geometry change.now }
@@ -37,7 +37,7 @@ pub fn step(held: &mut Held, change: &Record)
     }
 }
 
-/// The block of an address stands in this mapped page from now on.
+/// From now on, this mapped page has the block of the address.
 fn set_page(held: &mut Held, lba: u64, place: Place, dirty: bool)
     requires page { place.page < held.old.geometry.p }
     requires room { 1 ≤ held.old.spare_pages }
@@ -50,7 +50,7 @@ fn set_page(held: &mut Held, lba: u64, place: Place, dirty: bool)
     held.put_page(lba, place, dirty);
 }
 
-/// The blocks of a group stand in this data block from now on.
+/// From now on, this data block has the blocks of the group.
 fn set_group(held: &mut Held, group: u64, block: u32, present: PageSet, dirty: PageSet)
     requires group { group ≤ (held.old.geometry.size - 1) / held.old.geometry.p }
     requires below { present < 2 ^ held.old.geometry.p }
@@ -64,6 +64,6 @@ fn set_group(held: &mut Held, group: u64, block: u32, present: PageSet, dirty: P
     if present == 0 {
         return;
     }
-    // A dirty page is a present one.
+    // Each dirty page is present.
     held.put_block(group, BlockAt::new(block, present, dirty & present));
 }

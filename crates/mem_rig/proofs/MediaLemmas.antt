@@ -1,4 +1,4 @@
--- What the calls of a rig in memory leave is what the media promise.
+-- The calls of a rig in memory leave what the media promise.
 use Rattle.std.proofs.Common.{◌≡◌, ◌≢◌, ◌==◌, ◌⊎◌, ℕ, zero, suc, ◌%◌, Option, Some, None, List, [], ◌∷◌, Ok, Err, inl, inr, refl, sym, ◌∙◌, ap, subst, arith, cond, Bool, true, false, eq-eqb}
 use Rattle.std.proofs.lemmas.Bool.{both_ways, cases_eq, false≢true}
 use Rattle.std.proofs.lemmas.Option.{none-some}
@@ -63,7 +63,7 @@ settled_by old new left disk fell cut = record {
       ap (λ (d : ℕ → Values). d lba) cut ∙ ap (λ o. after_cut o disk lba) (sym fell.outcome ∙ ap (λ (s : Stop). s.outcome) same);
 }
 
--- no stop cut one that was not lost, nor one that found power off
+-- no stop cut a device write that was not lost, nor one that found power off
 pub settled_kept : (old new : State) (disk : ℕ → Values) → SettledByStop old new false disk
 settled_kept old new disk = record { settled = λ on lost. absurd (false≢true lost) }
 
@@ -81,7 +81,7 @@ device_done old new shape counted ready = record {
   unchanged = λ off. absurd (both_ways old.power.on off counted.was_on);
 }
 
--- a block becomes ready, or goes on to its next page, and each other block is as before
+-- a block becomes ready, or goes on to its next page, and each other block is unchanged
 pub ready_set : (old new : State) (block next : ℕ) → new.contents.flash.next ≡ set old.contents.flash.next block (Some next) → KeepsReady old new
 ready_set old new block next is b ready none = by_block (cases_eq block b)
   where
@@ -95,7 +95,7 @@ ready_set old new block next is b ready none = by_block (cases_eq block b)
 pub ready_same : (old new : State) → new.contents.flash ≡ old.contents.flash → KeepsReady old new
 ready_same old new same b ready none = ready (ap (λ (f : Flash). f.next b) (sym same) ∙ none)
 
--- an erase leaves of each page what it may
+-- an erase leaves each page as it may
 torn_is : (p : Page) → (torn p ≡ p) ⊎ ((torn p ≡ page.Blank) ⊎ (torn p ≡ page.Torn))
 torn_is page.Blank = inl refl
 torn_is (page.Whole block spare) = inr (inr refl)
@@ -133,7 +133,7 @@ pages_erased ending.Failed old new block is at = in_block block at (old.page at)
 pages_erased (ending.Cut left) old new block is at = in_block block at (old.page at) (cut_erase left at.page (old.page at)) (new.page at) (ap (λ (f : Flash). f.page at) is) (cut_erase_is left at.page (old.page at))
 pages_erased ending.Off old new block is at = inl (ap (λ (f : Flash). f.page at) is)
 
--- a program that was cut leaves its page as it was, which is blank, or whole or torn
+-- a program that was cut leaves its page unchanged, which is blank, or whole or torn
 same_page : (f : Place → Page) (at : Place) (value : Page) → f at ≡ value → (q : Place) → set_page f at value q ≡ f q
 same_page f at value is q = elim (cases_eq at.block q.block) [
   | inl block ↦ elim (cases_eq at.page q.page) [
@@ -152,7 +152,7 @@ page_left outcome.Whole old new at block spare blank is = inr (inl (ap (λ (f : 
 page_left outcome.Torn old new at block spare blank is = inr (inr (ap (λ (f : Flash). f.page) is))
 page_left outcome.Mixed old new at block spare blank is = inr (inr (ap (λ (f : Flash). f.page) is))
 
--- a write leaves values that were there, and the one that is written
+-- a write leaves values that were there, and the value that is written
 has_written : (disk : ℕ → Values) (lba : ℕ) (block : Block) (at : ℕ) (b : Block) → HasValue (after_write disk lba block at) b → HasValue (disk at) b ⊎ ((at ≡ lba) × (b ≡ block))
 has_written disk lba block at b has = elim (cases_eq lba at) [
   | inl same ↦
@@ -171,7 +171,7 @@ write_values ending.Failed old new lba block is at b has = inl (subst (λ (d : �
 write_values (ending.Cut left) old new lba block is at b has = has_written old lba block at b (settled_values left (after_write old lba block) at b (subst (λ (d : ℕ → Values). HasValue (d at) b) is has))
 write_values ending.Off old new lba block is at b has = inl (subst (λ (d : ℕ → Values). HasValue (d at) b) is has)
 
--- and a flush values that were there
+-- a flush leaves values that were there
 newest_has : (values : Values) (b : Block) → HasValue (flushed values) b → HasValue values b
 newest_has values b (inl is) = inl is
 newest_has values b (inr none) = absurd none
@@ -201,7 +201,7 @@ cut_between old new left is = subst (λ s. Cut old s left) (sym is) (record {
   crashed = record { next = refl; alone = λ lba. refl };
 })
 
--- want of memory changes nothing, and comes with power on alone
+-- out of memory changes nothing, and comes only with power on
 pub device_refused : (old new : State) → old.power.on ≡ true → new ≡ old → DeviceWrite {T = Unit {0}} old new (Err error.OutOfMemory)
 device_refused old new on same = subst (λ s. DeviceWrite {T = Unit {0}} old s (Err error.OutOfMemory)) (sym same) (record {
   shape = refl;
@@ -215,7 +215,7 @@ device_refused old new on same = subst (λ s. DeviceWrite {T = Unit {0}} old s (
 pub values_refused : (old new : State) (lba : ℕ) (block : Block) → new ≡ old → (at : ℕ) (b : Block) → HasValue (new.contents.disk at) b → HasValue (old.contents.disk at) b ⊎ ((at ≡ lba) × (b ≡ block))
 values_refused old new lba block same at b has = inl (subst (λ (s : State). HasValue (s.contents.disk at) b) same has)
 
--- the same of a device write whose ending is known to be this
+-- the same for a device write whose ending is known
 pub done_power : (how : Ending) (old new : Power) → how ≡ ending.Done → PowerLeft how old new → WasCounted old new
 done_power how old new is left = subst (λ h. PowerLeft h old new) is left
 

@@ -12,7 +12,7 @@ use Rattle.mem_rig.specs.Off.{IsUnready, IsSettled}
 use Rattle.mem_rig.specs.Power.{current_of, power_after_write, PowerLeft}
 use Rattle.mem_rig.proofs.PowerLemmas.{power_left}
 
--- power is off after a device write that was cut, and after one with power off
+-- power is off after a device write that was cut, and after a device write with power off
 abbrev WasLost : Ending → Power → Type 0
 WasLost how old = ((outcome : Outcome) × (how ≡ ending.Cut outcome)) ⊎ ((how ≡ ending.Off) × (old.on ≡ false))
 

@@ -1,4 +1,4 @@
--- The front stop goes, and what becomes of power in each device write.
+-- The front stop is dropped, and how power changes in each device write.
 use Rattle.std.proofs.Common.{◌≡◌, ℕ, zero, suc, ◌-◌, ◌<◌, ◌≤◌, List, [], ◌∷◌, ◌++◌, length, take, drop, refl, sym, ◌∙◌, ap, arith, append_assoc, Bool, true, false}
 use Rattle.std.proofs.lemmas.List.{take_at, length-take}
 use Rattle.ft_base.specs.declared.power.Stop.{Stop}
@@ -16,7 +16,7 @@ front_goes (x ∷ xs) rotated (suc n) some few is =
     let long : length (take n xs) ≡ n = grind (arith, length-take {A = Stop}) in
     (x, ap (λ l. x ∷ l) (sym (ap (λ k. take k (rotated ++ drop n xs)) one ∙ ap (take n) all ∙ take_at (take n xs) ((x ∷ []) ++ drop n xs) n long)))
 
--- what a device write leaves of power, however it ends
+-- power after a device write, however the write ends
 left : (on : Bool) (stops : List Stop) (rest : ℕ) (listed : Bool) → let power : Power = record { on = on; stops = stops; rest = rest } in PowerLeft (ending_of (current_of power) listed) power (power_after_write power)
 left false stops rest listed = (refl, refl)
 left true [] rest true = record { was_on = refl; on = refl; stops = refl; rest = λ some. absurd (some refl) }
@@ -28,7 +28,7 @@ left true (front ∷ later) (suc rest) false = record { was_on = refl; on = refl
 pub power_left : (power : Power) (listed : Bool) → PowerLeft (ending_of (current_of power) listed) power (power_after_write power)
 power_left power listed = left power.on power.stops power.rest listed
 
--- a block write takes memory only where power is on
+-- a block write takes memory only if power is on
 on_where : (on : Bool) (stops : List Stop) (rest : ℕ) (listed : Bool) → TakesMemory (ending_of (current_of (record { on = on; stops = stops; rest = rest })) listed) → on ≡ true
 on_where true stops rest listed takes = refl
 on_where false stops rest listed takes = absurd takes

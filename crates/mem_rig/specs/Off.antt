@@ -1,4 +1,4 @@
--- What the media are while power is off.
+-- The media while power is off.
 use Rattle.std.specs.Prelude.{◌≡◌, ℕ, []}
 use Rattle.ft_base.specs.Contents.{Flash, Values, none_ready}
 

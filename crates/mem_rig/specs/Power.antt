@@ -8,12 +8,12 @@ use Rattle.device_calls.specs.declared.ending.Current.TheVariants as current
 use Rattle.device_calls.specs.declared.ending.Ending.{Ending}
 use Rattle.device_calls.specs.declared.ending.Ending.TheVariants as ending
 
--- how many device writes can be done before the front stop cuts one, at the moment when it becomes the front
+-- how many device writes can be done before the front stop cuts one, when the stop becomes the front
 abbrev pub rest_at_front : List Stop → ℕ
 rest_at_front [] = 0
 rest_at_front (front ∷ later) = front.after - 1
 
--- the current during a device write: the front stop falls due where none can be done before it
+-- the current during a device write: the front stop falls due if no device write can be done before it
 abbrev pub due : List Stop → ℕ → Current
 due [] rest = current.On
 due (front ∷ later) zero = current.Stops front.outcome
@@ -22,7 +22,7 @@ due (front ∷ later) (suc rest) = current.On
 abbrev pub current_of : Power → Current
 current_of power = if power.on then due power.stops power.rest else current.Off
 
--- power after a device write: the front stop counts it, and where that falls due power is off and the stop gone
+-- power after a device write: the front stop counts it; if the stop falls due, power is off and the stop is gone
 abbrev pub counted : List Stop → ℕ → Power
 counted [] rest = record { on = true; stops = []; rest = rest }
 counted (front ∷ later) zero = record { on = false; stops = later; rest = rest_at_front later }
@@ -31,7 +31,7 @@ counted (front ∷ later) (suc rest) = record { on = true; stops = front ∷ lat
 abbrev pub power_after_write : Power → Power
 power_after_write power = if power.on then counted power.stops power.rest else power
 
--- power after a stop was put to the end of the queue
+-- power after a stop was put at the end of the queue
 abbrev pub rest_after_arm : List Stop → ℕ → ℕ → ℕ
 rest_after_arm [] rest after = after - 1
 rest_after_arm (front ∷ later) rest after = rest
@@ -60,7 +60,7 @@ pub record FellDue (old new : Power) (left : Outcome) : Type 0 where
   pub due : old.rest ≡ 0
   pub rest : new.rest ≡ rest_at_front new.stops
 
--- what became of power in a device write that ended so
+-- power after a device write with this ending
 abbrev pub PowerLeft : Ending → Power → Power → Type 0
 PowerLeft ending.Done old new = WasCounted old new
 PowerLeft ending.Failed old new = WasCounted old new

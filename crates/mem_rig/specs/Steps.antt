@@ -23,14 +23,14 @@ flash_bumped faults = record faults { flash = bumped faults.flash }
 abbrev pub disk_bumped : Faults → Faults
 disk_bumped faults = record faults { disk = bumped faults.disk }
 
--- a device write that was cut, and one with power off, raise the count of cuts
+-- a device write that was cut, or that found power off, raises the count of cuts
 abbrev pub cuts_left : Ending → ℕ → ℕ
 cuts_left ending.Done cuts = cuts
 cuts_left ending.Failed cuts = cuts
 cuts_left (ending.Cut outcome) cuts = bumped cuts
 cuts_left ending.Off cuts = bumped cuts
 
--- the faults after a device write of the flash, and after one of the disk
+-- the faults after a device write of the flash, and after a device write of the disk
 abbrev pub flash_faults_left : Ending → Faults → Faults
 flash_faults_left how faults = record { flash = faults_after how faults.flash; disk = faults.disk; cuts = cuts_left how faults.cuts }
 
@@ -46,7 +46,7 @@ abbrev pub flash_beside : Ending → Flash → Flash
 flash_beside (ending.Cut outcome) flash = unready flash
 flash_beside other flash = flash
 
--- a device write of the flash that ended so
+-- a device write of the flash with this ending
 pub record FlashWritten (how : Ending) (old new : State) (left : Flash) (counts_left : Counts) : Type 0 where
   pub shape : new.contents.shape ≡ old.contents.shape
   pub flash : new.contents.flash ≡ left
@@ -56,7 +56,7 @@ pub record FlashWritten (how : Ending) (old new : State) (left : Flash) (counts_
   pub power : new.power ≡ power_after_write old.power
   pub lent : new.lent ≡ old.lent
 
--- a device write of the disk that ended so
+-- a device write of the disk with this ending
 pub record DiskWritten (how : Ending) (old new : State) (left : ℕ → Values) (counts_left : Counts) : Type 0 where
   pub shape : new.contents.shape ≡ old.contents.shape
   pub flash : new.contents.flash ≡ flash_beside how old.contents.flash
@@ -83,13 +83,13 @@ abbrev pub read_counts : Option MediaError → Counts → Counts
 read_counts (Some error) counts = counts
 read_counts None counts = record counts { disk_reads = bumped counts.disk_reads }
 
--- why a read is refused, with power on and off, where its number is listed and where it isn't
+-- why a read fails, with power on and off, if its number is listed and if it isn't
 abbrev pub read_refusal : Bool → Bool → Option MediaError
 read_refusal false listed = Some error.PowerLost
 read_refusal true true = Some error.Failed
 read_refusal true false = None
 
--- the faults after a read of the flash that was refused so, and after one of the disk
+-- the faults after a read of the flash that failed with this error, and after a read of the disk that did
 abbrev pub flash_read_faults : Option MediaError → Faults → Faults
 flash_read_faults (Some error.Failed) faults = flash_bumped faults
 flash_read_faults (Some error.PowerLost) faults = cut_bumped faults

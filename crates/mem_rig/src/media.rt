@@ -168,7 +168,7 @@ impl Media for MemRig {
         requires { lba < (state_of self.old).contents.shape.size }
         ensures ok { OnOk result ((at : ℕ) → (state_of self.new).contents.disk at ≡ after_write
             (state_of self.old).contents.disk lba block.now at) }
-        // Whatever is answered, a disk block has a value that it had, or the one that is written.
+        // Whatever the call answers, a disk block has a value that it had, or the value that is written.
         ensures values { (at : ℕ) (b : Block) → HasValue ((state_of self.new).contents.disk at) b
             → HasValue ((state_of self.old).contents.disk at) b ⊎ ((at ≡ lba) × (b ≡ block.now)) }
         ensures failed { IsErrOf result MediaError.Failed → ((state_of self.new).contents.disk ≡ (state_of self.old).contents.disk)

@@ -15,10 +15,9 @@ use ft_media::{Counts, MediaError, PageRead};
 use nand_model::MemNand;
 use std::alloc::{AllocError, Global};
 
-/// Flash, disk and power in memory, with a queue of at most 16 stops. Chosen calls of the flash and of
-/// the disk fail.
+/// Flash, disk and power in memory, with a queue of at most 16 stops. Chosen calls of the flash and of the disk fail.
 ///
-/// The calls here say exactly what happens; those of `Media` and `Rig` are made of them.
+/// The calls here say exactly what happens; the calls of `Media` and `Rig` consist of them.
 #[derive(Drop)]
 pub struct MemRig {
     nand: MemNand,
@@ -56,8 +55,8 @@ impl MemRig {
         MemRig::failing(alloc, Vec::new(alloc), Vec::new(alloc))
     }
 
-    /// The same, but the calls of the flash and those of the disk with these numbers will fail, from 1 and
-    /// counted since now.
+    /// The same, but the calls of the flash and of the disk with these numbers will fail. The numbers start at 1, and
+    /// count from now on.
     pub fn failing(alloc: Global, flash: Vec<u64>, disk: Vec<u64>) -> MemRig
         ensures contents { (state_of result).contents ≡ new_contents 0 0 0 }
         ensures counts { (state_of result).counts ≡ record { programs = 0; erases = 0; disk_reads = 0; disk_writes = 0; disk_flushes = 0 } }
@@ -97,7 +96,7 @@ impl MemRig {
         self.disk.size()
     }
 
-    /// The page of a block to program next, where the block is ready. It may be one past the last.
+    /// The page of a block to program next, if the block is ready. It may be one past the last.
     pub fn next_page(&self, block: u32) -> Option<u32>
         requires { block < (state_of self.now).contents.shape.blocks }
         ensures { result ≡ (state_of self.now).contents.flash.next block }
@@ -105,8 +104,7 @@ impl MemRig {
         self.nand.next_page(block)
     }
 
-    /// Reads a page of the flash. No stop cuts a read. With power on it fails exactly where its number is
-    /// listed.
+    /// Reads a page of the flash. No stop cuts a read. With power on it fails if its number is listed, and only then.
     pub fn read_flash(
         &mut self,
         at: Place,
@@ -127,7 +125,7 @@ impl MemRig {
         self.nand.read(at, block, spare)
     }
 
-    /// Programs the next page of a block that is ready, and says how that ends.
+    /// Programs the next page of a block that is ready, and says how the write ended.
     #[tactic(auto, using(crate::proofs::PowerLemmas::power_left))]
     pub fn program_page(&mut self, at: Place, block: &Block, spare: &Spare) -> Ending
         requires ready { IsNextPage at (state_of self.old).contents.flash }
@@ -149,7 +147,7 @@ impl MemRig {
         ending
     }
 
-    /// Erases a block, which is ready once that is done, and says how that ends.
+    /// Erases a block, which is ready after that, and says how the write ended.
     #[tactic(auto, using(crate::proofs::PowerLemmas::power_left))]
     pub fn erase_block(&mut self, block: u32) -> Ending
         requires { block < (state_of self.old).contents.shape.blocks }
@@ -169,8 +167,7 @@ impl MemRig {
         ending
     }
 
-    /// Reads a block of the disk. No stop cuts a read. With power on it fails exactly where its number is
-    /// listed.
+    /// Reads a block of the disk. No stop cuts a read. With power on it fails if its number is listed, and only then.
     pub fn read_disk(&mut self, lba: u64, block: &mut Block) -> Result<(), MediaError>
         ensures refused { result_err result ≡ read_refusal (state_of self.old).power.on (disk_listed self.old) }
         ensures found { OnOk result (block.new ≡ ((state_of self.old).contents.disk lba).newest) }
@@ -184,8 +181,8 @@ impl MemRig {
         self.disk.read(lba, block)
     }
 
-    /// Writes a block of the disk, and says how that ends. Only one that is done or cut takes memory. Refused
-    /// for want of it, nothing is changed, and neither the call nor a device write is counted.
+    /// Writes a block of the disk, and says how the write ended. Only a write that is done or cut takes memory. On
+    /// `Err`, when memory fails, nothing has changed, and neither the call nor a device write is counted.
     #[tactic(auto, using(crate::proofs::PowerLemmas::power_left))]
     pub fn write_disk(&mut self, lba: u64, block: &Block) -> Result<Ending, AllocError>
         ensures ending { IfOk result (λ ending. ending ≡ disk_ending self.old) }
@@ -208,7 +205,7 @@ impl MemRig {
         Ok(ending)
     }
 
-    /// Flushes the disk, and says how that ends.
+    /// Flushes the disk, and says how the write ended.
     #[tactic(auto, using(crate::proofs::PowerLemmas::power_left))]
     pub fn flush_blocks(&mut self) -> Ending
         ensures ending { result ≡ disk_ending self.old }
@@ -227,7 +224,7 @@ impl MemRig {
         ending
     }
 
-    /// Makes flash and disk anew. Counts stay, and calls go on being counted. Refused, all is as before.
+    /// Makes flash and disk anew. Counts stay, and calls go on being counted. On `Err` nothing has changed.
     pub fn fit_anew(
         &mut self,
         alloc: Global,
@@ -246,7 +243,7 @@ impl MemRig {
         Ok(())
     }
 
-    /// Puts a stop to the end of the queue.
+    /// Puts a stop at the end of the queue.
     pub fn arm_stop(&mut self, after: u64, outcome: Outcome)
         requires room { length (state_of self.old).power.stops < 16 }
         requires after { 1 ≤ after }
@@ -294,7 +291,7 @@ impl MemRig {
         self.supply.is_on()
     }
 
-    /// The counts of calls that answered Ok.
+    /// The counts of calls that answered `Ok`.
     pub fn done(&self) -> Counts
         ensures { result ≡ (state_of self.now).counts }
     {
@@ -329,7 +326,7 @@ impl MemRig {
     }
 }
 
-/// The disk after a device write of the flash: settled where that was cut.
+/// Settles the disk if a device write of the flash was cut.
 fn settle_beside(disk: &mut MemDisk, ending: Ending)
     ensures disk { disk_lists disk.new ≡ disk_beside ending (disk_lists disk.old) }
     ensures size { size_of disk.new ≡ size_of disk.old }
@@ -340,7 +337,7 @@ fn settle_beside(disk: &mut MemDisk, ending: Ending)
     }
 }
 
-/// The flash after a device write of the disk: no block is ready where that was cut.
+/// Leaves no block of the flash ready if a device write of the disk was cut.
 fn stop_beside(nand: &mut MemNand, ending: Ending)
     ensures flash { flash_of nand.new ≡ flash_beside ending (flash_of nand.old) }
     ensures blocks { nand_blocks nand.new ≡ nand_blocks nand.old }

@@ -56,7 +56,7 @@ impl Supply {
         self.on = on;
     }
 
-    /// Puts a stop to the end of the queue.
+    /// Puts a stop at the end of the queue.
     pub(crate) fn arm(&mut self, after: u64, outcome: Outcome)
         requires room { length (power_of self.old).stops < 16 }
         requires after { 1 ≤ after }

@@ -22,7 +22,7 @@ use Rattle.merge_engine.proofs.BesideLemmas.{ChangedBeside, leaves_beside, lists
 use Rattle.merge_engine.proofs.RoleLemmas.{open_in_use}
 use Rattle.cache_model.proofs.StandLemmas.{entry_whole}
 
--- with one page of the open log block fewer left
+-- the log blocks with one page fewer left in the open one
 abbrev pub one_page_less : LogBlocksValue → LogBlocksValue
 one_page_less logs = record logs { room = logs.room - 1 }
 

@@ -1,4 +1,4 @@
--- A log block is begun where the open one has no page left.
+-- A log block is begun when the open one has no page left.
 use Rattle.std.proofs.Common.{◌≡◌, ℕ, ◌-◌, ◌<◌, ◌≤◌, [], ◌∷◌, ◌++◌, slice_get, Some, sym, ◌∙◌, ap, subst}
 use Rattle.ft_base.specs.declared.geometry.Geometry.{Geometry}
 use Rattle.ft_base.specs.Layout.{log_pages}
@@ -38,7 +38,7 @@ takes_after old mid new block is takes = record {
   taken = subst (λ (p : PoolValue). TakenAsLog p new.pool block) (ap (λ (p : Parts). p.pool) is) takes.taken;
 }
 
--- ---- the log blocks then
+-- ---- the log blocks after that
 
 begun_as : (old mid new : LogBlocksValue) (g : Geometry) (block : ℕ) → new ≡ block_begun block mid → mid.geometry ≡ g → old.geometry ≡ g
     → new ≡ record old { used = mid.used ++ block ∷ []; open_block = Some block; room = g.p }
@@ -59,7 +59,7 @@ begins_log old mid new block makes takes one one_mid same nothing log = record {
   log = log;
 }
 
--- and once its first page is programmed
+-- the log blocks once its first page is programmed
 pub begins_then : (old mid new : Parts) (pages : ℕ) → BeginsLog old mid pages → new ≡ record mid { log_blocks = record mid.log_blocks { room = mid.log_blocks.room - 1 } } → BeginsLog old new (pages - 1)
 begins_then old mid new pages begins is = record {
   left = begins.left;
@@ -72,9 +72,9 @@ begins_then old mid new pages begins is = record {
   log = λ can. ap (λ (p : Parts). p.log) is ∙ begins.log can;
 }
 
--- ---- what it costs
+-- ---- the cost of taking it
 
--- the log has a page left as before
+-- the log still has a page left
 pub page_left : (old new : LogValue) (g h : Geometry) → new.next ≡ old.next → h ≡ g → old.next < log_pages g → new.next < log_pages h
 page_left old new g h next same low = subst (λ n. n < log_pages h) (sym next) (subst (λ (k : Geometry). old.next < log_pages k) (sym same) low)
 

@@ -1,4 +1,4 @@
--- Pages of the pool in which no entry stands may change: nothing looks at them.
+-- Pages of the pool in which no entry stands may change, because nothing reads them.
 use Rattle.std.proofs.Common.{◌≡◌, ℕ, ◌<◌, ◌≤◌, ◌⊎◌, inl, inr, Option, Some, None, ok_or, Ok, refl, sym, ◌∙◌, ap, ap₂, subst, arith, take, List, [], ◌∷◌, true}
 use Rattle.std.specs.Option.{option_and_then}
 use Rattle.std.specs.FinMap.{get}
@@ -33,7 +33,7 @@ use Rattle.log_blocks.specs.Logs.{LogBlocksValue}
 use Rattle.log_blocks.specs.Logs as list
 use Rattle.merge_engine.specs.Agreement.{PartsAgree, AreOfOne, IsOpenBlock, Lists, RolesAgree}
 
--- no page changed but some of the pool in which no entry of the map stands, nor one of what is loaded
+-- no page changed except pages of the pool in which no entry of the map stands, and no loaded entry
 pub record ChangedBeside (g : Geometry) (m durable : Entries) (page page' : Place → Page) : Type 0 where
   pub regions : (at : Place) → at.block < first_pool g → page at ≡ page' at
   pub places : (a : ℕ) (e : Entry) → get m a ≡ Some e → page e.place ≡ page' e.place
@@ -44,9 +44,9 @@ same_beside g m durable page page' same =
     let at_place : (at : Place) → page at ≡ page' at = λ at. sym (ap (λ (f : Place → Page). f at) same) in
     record { regions = λ at low. at_place at; places = λ a e is. at_place e.place; loaded = λ a e is. at_place e.place }
 
--- ---- what is loaded
+-- ---- the entries that are loaded
 
--- what is loaded stands on these pages alone
+-- the loaded entries depend only on these pages
 pub alike_but : (g : Geometry) (page page' : Place → Page) (m : Entries) → load g page ≡ Ok m → SameBut g m page page' → LoadsAlike g page page'
 alike_but g page page' m loads but =
     let there = (loaded_is g page m loads).0 in
@@ -63,7 +63,7 @@ checkpoint_alike g page page' alike = ap (λ n. ok_or n NotFormatted >>= wanted 
 pub log_same : (g : Geometry) (page page' : Place → Page) (region : ℕ) → region < 2 → ((at : Place) → at.block < first_pool g → page at ≡ page' at) → log_region g page region ≡ log_region g page' region
 log_same g page page' region low same = pages_from-same page page' (log_at g region) 0 (log_pages g) (λ i within. same _ (log_below g region i low (omega arith)))
 
--- and so is the checkpoint that counts
+-- the checkpoint that counts is the same
 newest_same : (g : Geometry) (page page' : Place → Page) → ((at : Place) → at.block < first_pool g → page at ≡ page' at) → newest g page ≡ newest g page'
 newest_same g page page' same = ap₂ (λ xs ys. chosen (checkpoint_in xs) (checkpoint_in ys)) (region_same 0 (omega arith)) (region_same 1 (omega arith))
   where
@@ -92,11 +92,11 @@ current_alike page page' log m k alike = record {
   era = k.era;
 }
 
--- what is loaded is one
+-- the flash loads only one map
 pub loaded_durable : (g : Geometry) (page : Place → Page) (list : CacheList) (stands : FlashStandsFor g page list) (m : Entries) → load g page ≡ Ok m → stands.loaded ≡ m
 loaded_durable g page list stands m loads = cc
 
--- the lists are those of the map
+-- the lists are the lists of the map
 pub lists_as : (p q : Parts) (page : Place → Page) (list durable : CacheList) → q.map ≡ p.map → q.geometry ≡ p.geometry → Lists p page list durable → Lists q page list durable
 lists_as p q page list durable map_is geometry_is lists = record {
   held = λ a. lists.held a ∙ ap (λ (m : MapValue). option_and_then (held_at page) (get m.entries a)) (sym map_is);
@@ -118,7 +118,7 @@ module _ (parts : Parts) (old new : Contents) (agree : PartsAgree parts old) (be
   alike : LoadsAlike parts.geometry old.flash.page new.flash.page
   alike = alike_but parts.geometry old.flash.page new.flash.page agree.sound.current.durable loads but
 
-  -- the flash stands for what it stood for
+  -- the flash still stands for the same list
   pub stands_beside : (durable : CacheList) → FlashStandsFor parts.geometry old.flash.page durable → FlashStandsFor parts.geometry new.flash.page durable
   stands_beside durable stands =
       stands_but parts.geometry old.flash.page new.flash.page durable stands
@@ -130,7 +130,7 @@ module _ (parts : Parts) (old new : Contents) (agree : PartsAgree parts old) (be
     stands = stands_beside durable lists.stands;
   }
 
-  -- the parts agree, whatever is used for what, where the regions are as ready as before
+  -- the parts agree, whatever the roles are, if the readiness of the regions' blocks is unchanged
   pub agree_beside : (pool : PoolValue) (logs : LogBlocksValue) → new.shape ≡ old.shape → ((b : ℕ) → b < first_pool parts.geometry → new.flash.next b ≡ old.flash.next b)
       → AreOfOne (record parts { pool = pool; log_blocks = logs }) → RolesAgree (record parts { pool = pool; log_blocks = logs }) → list.AreSoundLogs logs → IsOpenBlock logs new.flash
       → PartsAgree (record parts { pool = pool; log_blocks = logs }) new
@@ -150,7 +150,7 @@ module _ (parts : Parts) (old new : Contents) (agree : PartsAgree parts old) (be
         open_log = open_log_same parts.log old.flash new.flash (current_low parts.log old.flash.page parts.map.entries s.current) low (subst (λ (g : Geometry). (b : ℕ) → b < first_pool g → new.flash.next b ≡ old.flash.next b) (sym log_is) ready) agree.open_log;
       }
 
--- ---- which pages these are
+-- ---- the pages that changed
 
 -- a page that was blank, in the pool
 pub set_beside : (g : Geometry) (m durable : Entries) (page : Place → Page) (at : Place) (v : Page) → first_pool g ≤ at.block → page at ≡ Blank
@@ -169,7 +169,7 @@ set_beside g m durable page at v high blank whole whole' =
     not_blank : (p : Page) → is_whole p ≡ true → p ≡ Blank → ⊥
     not_blank p whole blank = let e : is_whole Blank ≡ true = ap is_whole (sym blank) ∙ whole in absurd (cc)
 
--- whatever is answered, only that page may have changed
+-- whatever the call answers, only that page may have changed
 pub leaves_beside : (g : Geometry) (m durable : Entries) (old new : Flash) (at : Place) (block : Block) (spare : Spare) → first_pool g ≤ at.block → old.page at ≡ Blank
     → ((a : ℕ) (e : Entry) → get m a ≡ Some e → is_whole (old.page e.place) ≡ true)
     → ((a : ℕ) (e : Entry) → get durable a ≡ Some e → is_whole (old.page e.place) ≡ true)
@@ -206,7 +206,7 @@ erased_beside g m durable old new block high none none' erased = block_beside g 
     by_case at (inl same) = inl same
     by_case at (inr here) = inr here.0
 
--- where nothing is buffered, what is loaded is the map
+-- if nothing is buffered, the loaded entries are the map
 pub nothing_buffered : (page : Place → Page) (log : LogValue) (m : Entries) (k : IsCurrent page log m) → log.buffered ≡ [] → k.durable ≡ m
 nothing_buffered page log m k none = by_case log.buffered none k.buffered
   where

@@ -30,7 +30,7 @@ group_block_or_not g m group b is_map = elim (cases_eq (chosen_of Mapped g m gro
       ]
 ]
 
--- beside a group the entries stay, and in it nothing comes into a data block
+-- entries of other groups stay, and no entry of the group comes into a data block
 pub record ChangesOne (g : Geometry) (group : ℕ) (m m' : Entries) : Type 0 where
   pub others : (a : ℕ) → (a / g.p ≡ group → ⊥) → get m' a ≡ get m a
   pub mapped : (a : ℕ) (e : Entry) → get m' a ≡ Some e → e.block_mapped ≡ true → (f : Entry) × (get m a ≡ Some f) × (f.block_mapped ≡ true) × (f.place.block ≡ e.place.block)
@@ -45,7 +45,7 @@ data_not_log : Data ≡ Log → ⊥
 data_not_log is = cc
 
 module _ (g : Geometry) (group : ℕ) (m m' : Entries) (old new : PoolValue) (b : ℕ) (is_map : IsMap g m) (is_map' : IsMap g m') (in_pool : IsInPool g b) (follows : FollowsGroup g group m m' old new) where
-  -- the role is that of before, or the block is free and was the group's
+  -- the role is the old one, or the block is free and was the group's
   role_cases : (role_of new b ≡ role_of old b) ⊎ ((role_of new b ≡ Free) × IsGroupBlock g m group b × (IsGroupBlock g m' group b → ⊥))
   role_cases = elim (group_block_or_not g m' group b is_map') [
     | inl now ↦ inl (follows.kept b in_pool (λ was. now))

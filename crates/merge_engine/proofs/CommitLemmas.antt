@@ -1,4 +1,4 @@
--- What was buffered is on the flash: it stands for the map, or for what it stood for before.
+-- The buffered changes are on the flash: it stands for the map, or for the same list as before.
 use Rattle.std.proofs.Common.{◌≡◌, ◌⊎◌, ℕ, Some, Ok, sym, ◌∙◌, ap, subst, inl, inr}
 use Rattle.std.specs.FinMap.{get}
 use Rattle.ft_base.specs.declared.geometry.Geometry.{Geometry}
@@ -22,13 +22,13 @@ use Rattle.merge_engine.proofs.BesideLemmas.{held_same}
 use Rattle.merge_engine.proofs.RoleLemmas.{open_in_use}
 use Rattle.merge_engine.specs.Agreement.{ArePartsSound, PartsAgree, Lists, IsListOn}
 
--- ---- the pool is as before
+-- ---- the pool is unchanged
 
--- what lies in the pool is as before
+-- the pages of the pool are unchanged
 pub pool_same : (g : Geometry) (page page' : Place → Page) (m : Entries) → IsMap g m → PoolStays g page page' → (a : ℕ) (e : Entry) → get m a ≡ Some e → page e.place ≡ page' e.place
 pool_same g page page' m is_map stays a e is = sym (stays e.place (is_map.in_pool a e is).above)
 
--- flash that is loaded as a map whose pages are as before stands for the list that it made before
+-- a flash that is loaded as a map whose pages are unchanged stands for the same list
 pub stands_by_pool : (g : Geometry) (page page' : Place → Page) (m : Entries) (list : CacheList) → IsMap g m → PoolStays g page page' → load g page' ≡ Ok m → IsListOn page m list → FlashStandsFor g page' list
 stands_by_pool g page page' m list is_map stays loads on = record {
   loaded = m;
@@ -36,7 +36,7 @@ stands_by_pool g page page' m list is_map stays loads on = record {
   held = λ a. on a ∙ held_same page page' (get m a) (pool_same g page page' m is_map stays a);
 }
 
--- flash that is loaded as before, with its pool as before, stands for what it stood for
+-- a flash that loads the same entries, with an unchanged pool, stands for the same list
 pub stands_as_before : (g : Geometry) (page page' : Place → Page) (list : CacheList) → PoolStays g page page' → load g page' ≡ load g page → FlashStandsFor g page list → FlashStandsFor g page' list
 stands_as_before g page page' list stays same stands = stands_by_pool g page page' stands.loaded list (load-map g page stands.loaded stands.loads) stays (same ∙ stands.loads) stands.held
 
@@ -68,7 +68,7 @@ module _ (old : Parts) (log : LogValue) (checkpoints : Geometry) (before now : C
   same : (a : ℕ) (e : Entry) → get old.map.entries a ≡ Some e → before.flash.page e.place ≡ now.flash.page e.place
   same = pool_same old.geometry before.flash.page now.flash.page old.map.entries is_map stays
 
-  -- whatever is answered
+  -- whatever the call answers
   pub committed_stands : LoadsOneOf old.log.geometry before.flash.page now.flash.page old.map.entries → (list durable : CacheList) → Lists old before.flash.page list durable
       → FlashStandsFor old.geometry now.flash.page durable ⊎ FlashStandsFor old.geometry now.flash.page list
   committed_stands one list durable lists = by (subst (λ (h : Geometry). LoadsOneOf h before.flash.page now.flash.page old.map.entries) own one)

@@ -1,4 +1,4 @@
--- The pages of a group are copied into an erase block in which nothing stands.
+-- The pages of a group are copied into an erase block in which no entry stands.
 use Rattle.std.proofs.Common.{◌≡◌, ℕ, zero, suc, ◌+◌, ◌-◌, ◌*◌, ◌/◌, ◌%◌, ◌^◌, ◌<◌, ◌≤◌, inl, inr, Bool, true, cond, Option, Some, None, Ok, refl, sym, ◌∙◌, ap, subst, arith, pow-suc}
 use Rattle.std.specs.Option.{option_map}
 use Rattle.std.specs.FinMap.{get}
@@ -162,7 +162,7 @@ filled_more g m old new group block lba n to address here so_far others filler =
   ];
 }
 
--- of two addresses of a group the smaller has the smaller page
+-- the smaller of two addresses of a group has the smaller page
 pub page_before : (a b p group : ℕ) → a / p ≡ group → b / p ≡ group → a < b → a % p < b % p
 page_before a b p group in_a in_b less =
     let x : group * p + a % p ≡ a = ap (λ q. q * p + a % p) (sym in_a) ∙ div-add-mod' a p in
@@ -177,7 +177,7 @@ powers i j low = pow-le-pow_right (omega arith) low
 twice : (n : ℕ) → 2 ^ suc n ≡ 2 ^ n + 2 ^ n
 twice n = rw pow-suc (omega arith)
 
--- a page that is in a set is worth no more than the set
+-- the bit of a page that is in a set is at most the set's number
 set_of-least : (test : ℕ → Bool) (n i : ℕ) → i < n → test i ≡ true → 2 ^ i ≤ set_of test n
 set_of-least test zero i low here = absurd (omega arith)
 set_of-least test (suc n) i low here = elim (cases_lt i n) [
@@ -189,7 +189,7 @@ set_of-least test (suc n) i low here = elim (cases_lt i n) [
       omega (arith, last, power)
 ]
 
--- a set that is worth a page has one from it on
+-- a set whose number is at least a page's bit has a page from that page on
 page_from_on : (test : ℕ → Bool) (n page : ℕ) → 2 ^ page ≤ set_of test n → (i : ℕ) × (page ≤ i) × (i < n) × (test i ≡ true)
 page_from_on test zero page worth = absurd (omega (arith, pow_pos page))
 page_from_on test (suc n) page worth = elim (cases_lt n page) [
@@ -205,7 +205,7 @@ page_from_on test (suc n) page worth = elim (cases_lt n page) [
 ]
 
 module _ (g : Geometry) (m : Entries) (group held : ℕ) (is : held ≡ chosen_of Held g m group) where
-  -- so many bits as there are below the leading zeros
+  -- as many bits as there are below the leading zeros
   bits : (n : ℕ) × (128 - count_leading_zeros 128 held ≡ n) × (held < 2 ^ n) × (2 ^ n ≤ 2 * held + 1)
   bits =
       let below : held < 2 ^ g.p = subst (λ n. n < 2 ^ g.p) (sym is) (set_below (λ i. is_chosen Held (get m (group * g.p + i))) g.p) in
@@ -228,7 +228,7 @@ module _ (g : Geometry) (m : Entries) (group held : ℕ) (is : held ≡ chosen_o
         | inr high ↦ absurd (omega (arith, worth, less, powers n.0 (a % g.p) high))
       ]
 
-  -- and from each page below that first one on a page is held
+  -- from each page below that one on, some page is held
   held_from_on : (page : ℕ) → page < 128 - count_leading_zeros 128 held → (i : ℕ) × (page ≤ i) × (i < g.p) × ((e : Entry) × (get m (group * g.p + i) ≡ Some e))
   held_from_on page low =
       let n = bits in
@@ -238,7 +238,7 @@ module _ (g : Geometry) (m : Entries) (group held : ℕ) (is : held ≡ chosen_o
       let at = page_from_on (λ i. is_chosen Held (get m (group * g.p + i))) g.p page (subst (λ k. 2 ^ page ≤ k) is worth) in
       (at.0, at.1, at.2, held_is_some (get m (group * g.p + at.0)) at.3)
 
-  -- and a page below that first one is one of the group's, and none past the last that is held
+  -- a page below that one is a page of the group, and not past the last held one
   pub page_below : (page : ℕ) → IsMap g m → page < 128 - count_leading_zeros 128 held → (page < g.p) × (group * g.p + page < g.size)
   page_below page is_map low =
       let at = held_from_on page low in
@@ -248,7 +248,7 @@ module _ (g : Geometry) (m : Entries) (group held : ℕ) (is : held ≡ chosen_o
       let below = at.2 in
       (omega arith, omega (arith, within, above))
 
-  -- so many pages are there up to the last held one
+  -- there are this many pages up to the last held one
   pub pages_are : (pages : ℕ) → ReachesTo g m group pages → 128 - count_leading_zeros 128 held ≡ pages
   pages_are pages reach =
       let low = held_below reach.last reach.entry reach.held reach.in_group in
@@ -264,7 +264,7 @@ module _ (g : Geometry) (m : Entries) (group held : ℕ) (is : held ≡ chosen_o
         | inr few ↦ omega (arith, low, number, few)
       ]
 
--- ---- the same of the parts
+-- ---- the same for the parts
 
 module _ (parts : Parts) (group held : ℕ) (of_one : AreOfOne parts) (is : held ≡ chosen_of Held parts.map.geometry parts.map.entries group) where
   held_is : held ≡ chosen_of Held parts.geometry parts.map.entries group

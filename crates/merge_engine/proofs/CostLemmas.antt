@@ -1,4 +1,4 @@
--- What a merge costs, with something buffered and where a group gives way.
+-- The cost of a merge, with something buffered and if a group gives way.
 use Rattle.std.proofs.Common.{◌≡◌, ◌≢◌, ℕ, ◌+◌, ◌*◌, ◌<◌, nat_lt, cond, List, [], ◌∷◌, refl, sym, ◌∙◌, ap, subst, arith, lt-ltb}
 use Rattle.std.specs.FinMap.{get}
 use Rattle.std.proofs.lemmas.Nat.{div-mul-add}
@@ -40,14 +40,14 @@ committed_next old mid one is some low = ap (λ (l : LogValue). l.next) is ∙ n
 pub less_than : {n m : ℕ} → n + 1 < m → n < m
 less_than low = omega (arith, low)
 
--- then one is left for the next commit
+-- then a page is left for the next commit
 pub page_after : (old new : Parts) → new.log.next ≡ old.log.next + 1 → new.geometry ≡ old.geometry → old.log.next + 1 < log_pages old.geometry → new.log.next < log_pages new.geometry
 page_after old new next same low = subst (λ (g : Geometry). new.log.next < log_pages g) (sym same) (subst (λ n. n < log_pages old.geometry) (sym next) low)
 
 pub reach_committed : (old mid : Parts) (group pages : ℕ) → mid ≡ record old { log = mid.log } → ReachesTo old.geometry old.map.entries group pages → ReachesTo mid.geometry mid.map.entries group pages
 reach_committed old mid group pages is reach = subst (λ (p : Parts). ReachesTo p.geometry p.map.entries group pages) (sym is) reach
 
--- something was buffered, so that a log page was programmed before the group was copied
+-- something was buffered, so a log page was programmed before the group was copied
 pub copy_counts : (pages : ℕ) (old mid now last : Counts) → mid ≡ program_counted old → now ≡ programs_counted pages (erase_counted mid) → last ≡ program_counted now → last ≡ move_counted pages (program_counted old)
 copy_counts pages old mid now last first copied page = page ∙ ap program_counted copied ∙ ap (λ (n : Counts). program_counted (programs_counted pages (erase_counted n))) first
 

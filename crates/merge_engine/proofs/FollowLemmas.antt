@@ -27,16 +27,16 @@ module _ (parts : Parts) (is_map : IsMap parts.geometry parts.map.entries) (role
     (others : OthersStay parts.geometry group parts.map.entries m)
     (mapped : (a : ℕ) (e : Entry) → get m a ≡ Some e → a / parts.geometry.p ≡ group → e.block_mapped ≡ true)
     (follows : FollowsGroup parts.geometry group parts.map.entries m parts.pool pool) where
-  -- nothing of the group stands in the erase block now
+  -- no entry of the group stands in the erase block now
   abbrev pub HasLeft : ℕ → Type 0
   HasLeft b = (a : ℕ) (e : Entry) → get m a ≡ Some e → a / parts.geometry.p ≡ group → e.place.block ≡ b → ⊥
 
-  -- the role is that of an erase block for the new entries
+  -- the role suits an erase block with the new entries
   abbrev pub SuitsRole : ℕ → Role → Type 0
   SuitsRole b role = ((role ≡ Data) ↔ IsDataBlockOf m b) × ((role ≡ Log) ↔ IsInUse parts.log_blocks b)
 
   module _ (b : ℕ) (in_pool : IsInPool parts.geometry b) (left : HasLeft b) where
-    -- what stands in it now stood there before
+    -- an entry that stands in it now stood there before
     was_there : IsDataBlockOf m b → (a : ℕ) × (e : Entry) × (get parts.map.entries a ≡ Some e) × (e.block_mapped ≡ true) × (e.place.block ≡ b) × (a / parts.geometry.p ≡ group → ⊥)
     was_there x = elim (cases_eq (x.0 / parts.geometry.p) group) [
       | inl same ↦ absurd (left x.0 x.1 x.2 same x.4)

@@ -19,7 +19,7 @@ use Rattle.merge_engine.specs.Agreement.{AreOfOne, IsDataBlockOf, RolesAgree}
 
 -- ---- lists of numbers
 
--- where each number of a list goes with one of another, and no two with the same, it has no more of them
+-- if each number of a list goes with one of another list, and no two with the same, the list has no more of them
 related-le : (R : ℕ → ℕ → Type 0) → ((k n n' : ℕ) → R k n → R k n' → n ≡ n') → (xs ys : List ℕ) → ((n : ℕ) → member n xs ≡ true → (k : ℕ) × (member k ys ≡ true) × R k n) → length (each_once xs) ≤ length (each_once ys)
 related-le R one [] ys within = omega arith
 related-le R one (x ∷ xs) ys within = elim (cases_Bool (member x xs)) [
@@ -64,7 +64,7 @@ member-used n (x ∷ xs) t = elim (or_cases (n == x) (list.is_in n xs) t) [
   | inr later ↦ or_right (x == n) (member n xs) (member-used n xs later)
 ]
 
--- so many numbers from one on
+-- this many numbers from one on
 numbers_from : ℕ → ℕ → List ℕ
 numbers_from from zero = []
 numbers_from from (suc n) = from ∷ numbers_from (suc from) n
@@ -117,21 +117,21 @@ module _ (g : Geometry) (m : Entries) (is_map : IsMap g m) where
       subst (λ n. member n (numbers (λ (x : ℕ × Entry). x.1.place.block) (λ (e : Entry). e.block_mapped) (entries m)) ≡ true) at.4
       (by_get m (λ a e. e.block_mapped ≡ true → member e.place.block (numbers (λ (x : ℕ × Entry). x.1.place.block) (λ (e : Entry). e.block_mapped) (entries m)) ≡ true) (all_members (λ (x : ℕ × Entry). x.1.place.block) (λ (e : Entry). e.block_mapped) (entries m)) at.0 at.1 at.2 at.3)
 
-  -- each data block is that of a group
+  -- each data block is the data block of a group
   group_of : (n : ℕ) → member n data_numbers ≡ true → (k : ℕ) × (member k group_numbers ≡ true) × IsBlockOfGroup g m k n
   unfolding data_numbers
   group_of n t =
       let x = member_of (λ (x : ℕ × Entry). x.1.place.block) (λ (e : Entry). e.block_mapped) (λ x. get m x.0 ≡ Some x.1) (entries m) n (all_entries m (λ a e. get m a ≡ Some e) (λ a e is. is)) t in
       (x.0.0 / g.p, group_number x.0.0 x.0.1 x.1 x.2, record { address = x.0.0; entry = x.0.1; there = x.1; mapped = x.2; in_group = refl; in_block = x.3 })
 
-  -- so there are no more data blocks than groups that have one
+  -- so there are at most as many data blocks as groups that have one
   data_few : length (each_once data_numbers) ≤ g.c
   unfolding group_numbers
   data_few = let few = related-le (IsBlockOfGroup g m) one_block data_numbers group_numbers group_of in let most = is_map.data_blocks in omega (arith, few, most)
 
 -- ---- a walk over the pool
 
--- one of so many blocks is free, or each is a data block or a log block
+-- one of n blocks is free, or each is a data block or a log block
 free_or_used : (pool : PoolValue) (from n : ℕ) → ((b : ℕ) × (from ≤ b) × (b < from + n) × (role_of pool b ≡ Free)) ⊎ ((b : ℕ) → from ≤ b → b < from + n → (role_of pool b ≡ Data) ⊎ (role_of pool b ≡ Log))
 free_or_used pool from zero = inr (λ b low high. absurd (omega arith))
 free_or_used pool from (suc n) = elim (free_or_used pool (suc from) n) [

@@ -1,4 +1,4 @@
--- Which entries stay where groups are merged, and how many data blocks there are then.
+-- The entries that stay when groups are merged, and how many data blocks there then are.
 use Rattle.std.proofs.Common.{◌≡◌, ℕ, ◌/◌, ◌%◌, ◌≤◌, ◌==◌, ◌||◌, Bool, true, false, cond, ◌∷◌, Option, Some, None, refl, sym, ◌∙◌, ap, subst, arith, inl, inr, eqb-true, ne_eqb}
 use Rattle.std.specs.FinMap.{get}
 use Rattle.std.proofs.lemmas.Bool.{cases_Bool, cases_eq, both_ways, or_cases}
@@ -27,7 +27,7 @@ use Rattle.merge_engine.proofs.MovedLemmas.{dropped, dropped_here, dropped_other
 as_many : (g : Geometry) (m n : Entries) → ((k : ℕ) → HasDataBlock g m k → HasDataBlock g n k) → data_block_count g m ≤ data_block_count g n
 as_many g m n still = each_once-le (mapped_numbers g m) (mapped_numbers g n) (λ k t. is_there g n k (still k (has_block g m k t)))
 
--- one has none any more, and another one has one now
+-- one group no longer has one, and another one has one now
 as_many_swapped : (g : Geometry) (m n : Entries) (group gone : ℕ) → (HasDataBlock g m group → ⊥) → HasDataBlock g m gone → HasDataBlock g n group
     → ((k : ℕ) → (k ≡ gone → ⊥) → HasDataBlock g m k → HasDataBlock g n k) → data_block_count g m ≤ data_block_count g n
 as_many_swapped g m n group gone none had has still =
@@ -110,7 +110,7 @@ frees_merged g block group m n merged page most = record {
     when_gone None way k t = absurd (cc)
     when_gone (Some one) way k t = let all = way.0.full in let low = merged.no_fewer in omega (arith, all, low, most)
 
--- a group has a page in it as in a log block only if it had
+-- a group has a page in it as in a log block only if it had one before
 page_before : (g : Geometry) (block : ℕ) (m n : Entries) → PageMappedStay m n → (k : ℕ) → HasPageIn g n block k → HasPageIn g m block k
 page_before g block m n stay k x = elim (stay x.0 x.1 x.2) [
   | inl was ↦ (x.0, x.1, was, x.3, x.4, x.5)
@@ -139,7 +139,7 @@ frees_then g block m n o first stay then most = record {
     both true c x = refl
     both false c x = refl
 
--- ---- what a merge knows of it
+-- ---- the facts that a merge has about it
 
 -- the group of an address that stands at a page of a log block has a page in it
 pub page_of_owner : (parts : Parts) (at : Place) (lba : ℕ) → RolesAgree parts → IsInUse parts.log_blocks at.block → Owns parts.map.entries at lba → HasPageIn parts.geometry parts.map.entries at.block (lba / parts.geometry.p)

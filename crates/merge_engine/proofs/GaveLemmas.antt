@@ -54,7 +54,7 @@ is_absent g m group none = elim (cases_Bool (member group (mapped_numbers g m)))
 pub one_longer : (n : ℕ) (ns : List ℕ) → member n ns ≡ false → length (each_once (n ∷ ns)) ≡ suc (length (each_once ns))
 one_longer n ns f = ap (λ b. length (cond b (each_once ns) (n ∷ each_once ns))) f
 
--- a number of the longer list is the new one, or one of the others
+-- a number of the longer list is the new one, or one of the old list
 pub of_longer : {A : Type 0} (n k : ℕ) (ns : List ℕ) → member k (n ∷ ns) ≡ true → (n ≡ k → A) → (member k ns ≡ true → A) → A
 of_longer n k ns t here there = elim (or_cases (n == k) (member k ns) t) [
   | inl same ↦ here (eqb-true n k same)
@@ -98,7 +98,7 @@ module _ (g : Geometry) (m : Entries) (page : Place → Page) (s : CacheList) (w
           let same : h ≡ x.0 = same_Some h x.0 (sym is ∙ x.1) in
           (e, at, ap (λ (k : Held). k.dirty) same ∙ x.2)
 
-  -- a group that is wholly clean in the entries is so in the list
+  -- a group that is wholly clean in the entries is wholly clean in the list
   pub clean_listed : (group : ℕ) → entries_are.HoldsCleanAlone g m group → IsWhollyClean g s group
   clean_listed group is = record {
     some = let x = is.held in let y = listed x.0 x.1 x.2 in (x.0, y.0, y.1, x.3);
@@ -107,7 +107,7 @@ module _ (g : Geometry) (m : Entries) (page : Place → Page) (s : CacheList) (w
 
   -- ---- how many groups there are
 
-  -- where the group is held and lacks room, there are more than C
+  -- if the group is held and lacks room, there are more than C
   too_many : (group : ℕ) → LacksRoom g m group → IsGroupHeld g m group → g.c < length (groups g s)
   too_many group lacks x =
       let longer = one_longer group (mapped_numbers g m) (is_absent g m group lacks.none) in
@@ -120,7 +120,7 @@ module _ (g : Geometry) (m : Entries) (page : Place → Page) (s : CacheList) (w
   pub get_without : (gone a : ℕ) → get (list_without g gone s) a ≡ cond (a / g.p == gone) None (get s a)
   get_without gone a = get_retain s (λ a. not (is_in_group g gone a)) a ∙ cond-not (a / g.p == gone) (get s a) None
 
-  -- the group of an entry that stays is one of the list without another
+  -- the group of an entry that stays is a group of the list without another group
   still_listed : (gone a : ℕ) (e : Entry) → get m a ≡ Some e → (a / g.p ≡ gone → ⊥) → member (a / g.p) (group_numbers g (list_without g gone s)) ≡ true
   still_listed gone a e is other =
       let y = listed a e is in
@@ -140,7 +140,7 @@ module _ (g : Geometry) (m : Entries) (page : Place → Page) (s : CacheList) (w
       let full = lacks.full in
       omega (arith, shorter, longer, few, full)
 
-  -- without the group itself, the C are left that have a data block
+  -- without the group itself, the C groups that have a data block are left
   left_by_itself : (group : ℕ) → LacksRoom g m group → g.c ≤ length (groups g (list_without g group s))
   left_by_itself group lacks =
       let few = each_once-le (mapped_numbers g m) (group_numbers g (list_without g group s)) (λ n t.
@@ -177,10 +177,10 @@ module _ (g : Geometry) (m : Entries) (page : Place → Page) (s : CacheList) (w
   pub none_way : (group : ℕ) → HasBlockOrRoom g m group → GaveWay g m group s s
   none_way group room = record { gone = None; given_up = room; stays = λ a. refl }
 
--- ---- what is known of the entries
+-- ---- the facts about the entries
 
 module _ (g : Geometry) (m : Entries) (group : ℕ) where
-  -- where no group is a candidate, the group itself is clean
+  -- if no group is a candidate, the group itself is clean
   pub itself_clean : IsMap g m → LacksRoom g m group → HasNoCandidate g m → IsClean g m group
   itself_clean is_map lacks none a e at same = elim (cases_Bool e.dirty) [
     | inl t ↦
@@ -207,7 +207,7 @@ module _ (g : Geometry) (m : Entries) (group : ℕ) where
   pub held_still : (gone : ℕ) → LacksRoom g m group → IsVictim g m gone → IsGroupHeld g m group → IsGroupHeld g (dropped g m gone) group
   held_still gone lacks victim x = (x.0, x.1, dropped_other g m gone x.0 (λ here. victim_other gone lacks victim (sym x.3 ∙ here)) ∙ x.2, x.3)
 
-  -- a data block is left for it
+  -- then there is room for the group's data block
   pub room_made : (gone : ℕ) → LacksRoom g m group → IsVictim g m gone → HasBlockOrRoom g (dropped g m gone) group
   room_made gone lacks victim =
       let ns = mapped_numbers g m in
@@ -222,7 +222,7 @@ module _ (g : Geometry) (m : Entries) (group : ℕ) where
       not_here : (a : ℕ) (e : Entry) → get (dropped g m gone) a ≡ Some e → a / g.p ≡ gone → ⊥
       not_here a e is here = let no : None ≡ Some e = sym (dropped_here g m gone a here) ∙ is in absurd (cc)
 
-  -- ---- entries beside the group
+  -- ---- entries of other groups
 
   pub page_mapped_stay : (n : Entries) → IsMerged g n group → OthersStay g group m n → PageMappedStay m n
   page_mapped_stay n merged stay a e is = elim (cases_eq (a / g.p) group) [
@@ -248,7 +248,7 @@ module _ (g : Geometry) (m : Entries) (group : ℕ) where
   pub dropped_merged : IsMerged g (dropped g m group) group
   dropped_merged a e is same = absurd (let no : None ≡ Some e = sym (dropped_here g m group a same) ∙ is in cc)
 
--- ---- what the flash stands for
+-- ---- the lists for which the flash stands
 
 pub given_either : (g : Geometry) (page : Place → Page) (durable list v : CacheList) → GivesRoom g list v → FlashStandsForEither g page durable v → FlashStandsForGiven g page durable list
 given_either g page durable list v gives (inl stands) = inl stands

@@ -1,4 +1,4 @@
--- A log block that nothing stands in is taken out of use.
+-- A log block without an entry is taken out of use.
 use Rattle.std.proofs.Common.{◌≡◌, ℕ, ◌+◌, ◌<◌, List, [], ◌∷◌, ◌⊎◌, suc, length, slice_get, ◌≤◌, ◌==◌, not, Bool, true, false, cond, Some, None, inl, inr, refl, sym, ◌∙◌, ap, subst, arith, eqb-true, ne_eqb}
 use Rattle.std.proofs.lemmas.Bool.{cases_Bool, cases_lt, or_cases, and_parts, and_from}
 use Rattle.ft_base.specs.declared.geometry.Geometry.{Geometry}
@@ -16,21 +16,21 @@ use Rattle.merge_engine.specs.Agreement.{PartsAgree, AreOfOne, IsOpenBlock, Role
 use Rattle.merge_engine.specs.Steps.{CanBeginLog, HasUnheldLog}
 use Rattle.merge_engine.proofs.BesideLemmas.{same_beside, agree_beside}
 
--- another block is in use as before
+-- another block is still in use
 pub still_in_use : (logs : LogBlocksValue) (block b : ℕ) → (b ≡ block → ⊥) → IsInUse logs b → IsInUse (released block logs) b
 still_in_use logs block b differs used = is_in-without b block logs.used ∙ and_from (not (block == b)) (is_in b logs.used) (ap not (ne_eqb block b (λ same. differs (sym same)))) used
 
 pub was_in_use : (logs : LogBlocksValue) (block b : ℕ) → IsInUse (released block logs) b → IsInUse logs b
 was_in_use logs block b used = (and_parts (not (block == b)) (is_in b logs.used) (sym (is_in-without b block logs.used) ∙ used)).1
 
--- and this one is not
+-- this block is not in use
 pub not_in_use : (logs : LogBlocksValue) (block : ℕ) → IsInUse (released block logs) block → ⊥
 not_in_use logs block used =
     let p = (and_parts (not (block == block)) (is_in block logs.used) (sym (is_in-without block block logs.used) ∙ used)).0 in
     let both : not true ≡ true = ap not (sym (same_number block)) ∙ p in
     cc
 
--- the open block is as open as before, or none is
+-- the open block is unchanged, or none is open
 pub open_still : (logs : LogBlocksValue) (block : ℕ) (flash : Flash) → IsOpenBlock logs flash → IsOpenBlock (released block logs) flash
 open_still logs block flash opened = by_case (is_open logs block) refl
   where
@@ -90,11 +90,11 @@ gave_back-more old mid new block gave is of_one unheld agree = record {
   agree = λ contents was. agree contents (gave.agree contents was) unheld;
 }
 
--- each is one fewer
+-- each time one fewer is in use
 pub one_fewer : (mid new : Parts) (block : ℕ) → new ≡ record mid { pool = new.pool; log_blocks = released block mid.log_blocks } → list.AreSoundLogs mid.log_blocks → IsInUse mid.log_blocks block → length new.log_blocks.used + 1 ≡ length mid.log_blocks.used
 one_fewer mid new block is sound used = ap (λ (p : Parts). length p.log_blocks.used + 1) is ∙ length-without block mid.log_blocks.used sound.distinct used
 
--- fewer are in use; or all that were, and something stands in each of the first so many
+-- fewer are in use; or all are still in use, and some entry stands in each of the first i
 abbrev pub FewerOrHeld : Parts → Parts → ℕ → Type 0
 FewerOrHeld old new i = (length new.log_blocks.used < length old.log_blocks.used) ⊎ ((new.log_blocks ≡ old.log_blocks) × ((k b : ℕ) → k < i → slice_get old.log_blocks.used k ≡ Some b → StandsNoneIn old.map.entries b → ⊥))
 
@@ -102,7 +102,7 @@ pub fewer_given : (old mid new : Parts) (i : ℕ) → length new.log_blocks.used
 fewer_given old mid new i one (inl less) = inl (omega arith)
 fewer_given old mid new i one (inr same) = let all = ap (λ (l : LogBlocksValue). length l.used) same.0 in inl (omega arith)
 
--- something stands in the next one too
+-- some entry stands in the next one too
 pub fewer_passed : (old mid : Parts) (i block : ℕ) → mid.map ≡ old.map → Some block ≡ slice_get mid.log_blocks.used i → (StandsNoneIn mid.map.entries block → ⊥) → FewerOrHeld old mid i → FewerOrHeld old mid (i + 1)
 fewer_passed old mid i block map_is at held (inl less) = inl less
 fewer_passed old mid i block map_is at held (inr same) = inr (
@@ -129,7 +129,7 @@ pub no_more_left : (old new : Parts) (i : ℕ) → FewerOrHeld old new i → len
 no_more_left old new i (inl less) = omega arith
 no_more_left old new i (inr same) = let all = ap (λ (l : LogBlocksValue). length l.used) same.0 in omega arith
 
--- all were looked at
+-- all blocks were looked at
 pub fewer_left : (old new : Parts) (i : ℕ) → length new.log_blocks.used ≤ i → FewerOrHeld old new i → HasUnheldLog old → length new.log_blocks.used < length old.log_blocks.used
 fewer_left old new i past (inl less) some = less
 fewer_left old new i past (inr same) some =
@@ -138,7 +138,7 @@ fewer_left old new i past (inr same) some =
     let all = ap (λ (l : LogBlocksValue). length l.used) same.0 in
     absurd (same.1 at.0 some.0 (omega arith) at.2 some.2)
 
--- where one can be begun without a merge, fewer than L are left
+-- if one can be begun without a merge, fewer than L are left
 pub few_left : (old mid : Parts) → list.AreSoundLogs old.log_blocks → old.log_blocks.geometry ≡ old.geometry → mid.geometry ≡ old.geometry → length mid.log_blocks.used ≤ length old.log_blocks.used
     → (HasUnheldLog old → length mid.log_blocks.used < length old.log_blocks.used) → CanBeginLog old → length mid.log_blocks.used < mid.geometry.l
 few_left old mid sound own same no_more fewer (inl few) = let l = ap (λ (h : Geometry). h.l) same in omega arith

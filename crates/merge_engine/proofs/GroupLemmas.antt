@@ -1,4 +1,4 @@
--- The data block of a group, and the roles where it changes.
+-- The data block of a group, and the roles when it changes.
 use Rattle.std.proofs.Common.{◌≡◌, ◌≢◌, ℕ, true, false, refl, sym, ◌∙◌, subst, arith}
 use Rattle.ft_base.specs.declared.geometry.Geometry.{Geometry}
 use Rattle.cache_model.specs.Records.{Entries}

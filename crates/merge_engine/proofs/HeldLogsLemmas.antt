@@ -1,4 +1,4 @@
--- The log blocks that are left once those in which nothing stands are out of use.
+-- The log blocks that are left once those without an entry are out of use.
 use Rattle.std.proofs.Common.{◌≡◌, ◌⊎◌, ℕ, zero, suc, ◌+◌, ◌<◌, ◌≤◌, ◌==◌, ◌&&◌, ◌||◌, nat_eq, Bool, true, false, not, cond, List, [], ◌∷◌, filter, length, slice_get, Some, inl, inr, refl, sym, ◌∙◌, ap, subst, arith, eqb-true, ne_eqb}
 use Rattle.std.proofs.lemmas.Bool.{cases_Bool, cases_lt, or_right}
 use Rattle.std.proofs.lemmas.Map.Views.{any-filter_same}
@@ -47,7 +47,7 @@ kept_all p (x ∷ xs) = elim (cases_Bool (p x)) [
   | inr f ↦ inr (x, ap (λ b. b || is_in x xs) (same_number x), f)
 ]
 
--- before a block that is taken out, the blocks stay where they are
+-- before a block that is taken out, the blocks keep their places
 earlier : (xs : List ℕ) (block i k : ℕ) → slice_get xs i ≡ Some block → k < i → ((j c : ℕ) → j < i → slice_get xs j ≡ Some c → c ≡ block → ⊥) → slice_get (without_block block xs) k ≡ slice_get xs k
 earlier [] block i k at low apart = refl
 earlier (x ∷ xs) block zero k at low apart = absurd (omega (arith, low))
@@ -58,7 +58,7 @@ earlier (x ∷ xs) block (suc i) (suc k) at low apart =
 
 -- ---- as far as the loop has come
 
--- only blocks in which nothing stands are out of the list, and something stands in each of the first so many
+-- only blocks without an entry are out of the list, and some entry stands in each of the first i
 pub record HeldSoFar (m : Entries) (old new : List ℕ) (i : ℕ) : Type 0 where
   pub holds : ℕ → Bool
   pub left : new ≡ filter holds old
@@ -74,7 +74,7 @@ held_first m old = record {
 }
 
 module _ (m : Entries) (old mid : List ℕ) (i block : ℕ) (at : Some block ≡ slice_get mid i) (so_far : HeldSoFar m old mid i) where
-  -- nothing stands in the next one, and it is taken out
+  -- no entry stands in the next block, and it is taken out
   pub held_given : (new : List ℕ) → new ≡ without_block block mid → StandsNoneIn m block → HeldSoFar m old new i
   held_given new is none = record {
     holds = λ b. not (block == b) && so_far.holds b;
@@ -89,7 +89,7 @@ module _ (m : Entries) (old mid : List ℕ) (i block : ℕ) (at : Some block ≡
       stays : (k : ℕ) → k < i → slice_get (without_block block mid) k ≡ slice_get mid k
       stays k low = earlier mid block i k (sym at) low (λ j c less there same. so_far.looked j c less there (subst (λ n. StandsNoneIn m n) (sym same) none))
 
-  -- something stands in the next one
+  -- some entry stands in the next block
   pub held_passed : (StandsNoneIn m block → ⊥) → HeldSoFar m old mid (i + 1)
   held_passed some = record {
     holds = so_far.holds;
@@ -105,7 +105,7 @@ module _ (m : Entries) (old mid : List ℕ) (i block : ℕ) (at : Some block ≡
     ];
   }
 
--- all were looked at
+-- all blocks were looked at
 pub held_all : (m : Entries) (old new : List ℕ) (i : ℕ) → length new ≤ i → HeldSoFar m old new i → AreHeldLogs m old new
 held_all m old new i past so_far = record {
   holds = so_far.holds;
@@ -121,16 +121,16 @@ held_all m old new i past so_far = record {
   );
 }
 
--- ---- what that tells
+-- ---- the conclusions
 
--- where fewer than L are left, one can be begun without a merge
+-- if fewer than L are left, one can be begun without a merge
 pub can_from : (old : Parts) (left : List ℕ) → AreHeldLogs old.map.entries old.log_blocks.used left → length left < old.geometry.l → CanBeginLog old
 can_from old left held few = elim (kept_all held.holds old.log_blocks.used) [
   | inl same ↦ let all : length left ≡ length old.log_blocks.used = ap (λ (l : List ℕ). length l) (held.left ∙ same) in inl (omega (arith, few, all))
   | inr one ↦ inr (one.0, one.1, (held.unheld one.0 one.1).0 one.2)
 ]
 
--- where none can, all are left
+-- if none can be begun without a merge, all are left
 pub all_left : (old : Parts) (left : List ℕ) → AreHeldLogs old.map.entries old.log_blocks.used left → (CanBeginLog old → ⊥) → left ≡ old.log_blocks.used
 all_left old left held cannot = elim (kept_all held.holds old.log_blocks.used) [
   | inl same ↦ held.left ∙ same

@@ -29,9 +29,9 @@ use Rattle.merge_engine.specs.Agreement.{IsDataBlockOf, RolesAgree}
 use Rattle.merge_engine.specs.Loaded.{AreAscending, AreInUse, IsLogBlockOf, IsUsedAs, RolesOf, RolesSoFar, role_for}
 use Rattle.merge_engine.proofs.GroupLemmas.{group_block, no_block}
 
--- ---- what one entry says
+-- ---- the role that one entry says
 
--- two places of the pool of one number are in one block
+-- two places of the pool with one number are in one block
 number-block : (g : Geometry) (x y : Place) → InPool g x → InPool g y → number_of g x ≡ number_of g y → x.block ≡ y.block
 number-block g x y here there same =
     let above = here.above in
@@ -41,7 +41,7 @@ number-block g x y here there same =
     let blocks : x.block - first_pool g ≡ y.block - first_pool g = sym one ∙ ap (λ n. n / g.p) same ∙ other in
     omega arith
 
--- the block of a data block's entry is that of its group
+-- the block of a data block's entry is the data block of its group
 pub data_role : (g : Geometry) (m : Entries) (lba block : ℕ) (own : BlockPages) → IsMap g m → IsDataBlock g m (lba / g.p) own → own.block ≡ block → (e : Entry) → get m lba ≡ Some e → e.place.block ≡ block → Data ≡ role_for e.block_mapped
 data_role g m lba block own is_map is_data same e is here =
     let found = group_block g m (lba / g.p) own is_data in
@@ -60,7 +60,7 @@ no_data_role g m lba none e is = elim (cases_Bool e.block_mapped) [
   | inr f ↦ ap role_for (sym f)
 ]
 
--- two entries in one block use it alike
+-- two entries in one block give it the same role
 pub used_alike : (g : Geometry) (m : Entries) (a b : ℕ) (e f : Entry) → IsMap g m → get m a ≡ Some e → get m b ≡ Some f → e.place.block ≡ f.place.block → e.block_mapped ≡ f.block_mapped
 used_alike g m a b e f is_map is is' same = elim (cases_Bool e.block_mapped) [
   | inl t ↦ t ∙ sym (is_map.own_block a b e f is is' t (sym same)).block_mapped
@@ -143,7 +143,7 @@ roles_all g m pool numbers i all past so_far = record {
 
 -- ---- the log blocks
 
--- those below a number are in the list, and no others
+-- exactly the log blocks below a number are in the list
 pub record AdoptedBelow (g : Geometry) (pool : PoolValue) (logs : LogBlocksValue) (block : ℕ) : Type 0 where
   pub geometry : logs.geometry ≡ g
   pub sound : list.AreSoundLogs logs
@@ -186,7 +186,7 @@ module _ (g : Geometry) (pool : PoolValue) (logs : LogBlocksValue) (block : ℕ)
       is_counted : (n : ℕ) → IsInPool g n → role_of pool n ≡ Log → member n (map (λ (x : ℕ × Entry). x.1.place.block) (filter (λ (x : ℕ × Entry). page_mapped x.1) (entries m))) ≡ true
       is_counted n at is = let e = (roles.log_blocks n at).0 is in subst (λ k. member k (map (λ (x : ℕ × Entry). x.1.place.block) (filter (λ (x : ℕ × Entry). page_mapped x.1) (entries m))) ≡ true) e.4 (member_from (λ x. x.1.place.block) page_mapped m e.0 e.1 e.2 (ap not e.3))
 
--- the numbers rise once more where the last is above all others
+-- the numbers still ascend when a number above all others is added at the end
 pub ascending-push : (xs : List ℕ) (block : ℕ) → AreAscending xs → ((n : ℕ) → is_in n xs ≡ true → n < block) → AreAscending (xs ++ block ∷ [])
 ascending-push [] block rise low = (tt, tt)
 ascending-push (x ∷ xs) block rise low = (below-push xs rise.0, ascending-push xs block rise.1 (λ n there. low n (later n there)))

@@ -1,4 +1,4 @@
--- What a merge knows of its group, and what it leaves.
+-- The facts that a merge has about its group, and the state that it leaves.
 use Rattle.std.proofs.Common.{◌≡◌, ℕ, ◌/◌, ◌<◌, ◌≤◌, Bool, true, false, Option, Some, None, is_some, IfSome, IfNone, refl, sym, ◌∙◌, ap, subst, arith, inl, inr}
 use Rattle.std.proofs.lemmas.Bool.{both_ways}
 use Rattle.ft_base.specs.declared.geometry.Geometry.{Geometry}
@@ -23,11 +23,11 @@ use Rattle.merge_engine.proofs.MoveLemmas.{either_same}
 use Rattle.merge_engine.proofs.GaveLemmas.{other_gave, other_way, itself_gave, itself_way, itself_clean, held_still, room_made, page_mapped_stay, dropped_stay, mapped_then, dropped_merged, given_either, none_way}
 use Rattle.merge_engine.proofs.MovedLemmas.{dropped}
 
--- the list is the same, whatever chooses the victims
+-- the list is the same, whatever the choice of victims
 pub lists_victims : (parts : Parts) (victims : Geometry) (page : Place → Page) (list durable : CacheList) → Lists parts page list durable → Lists (record parts { victims = victims }) page list durable
 lists_victims parts victims page list durable lists = record { held = lists.held; stands = lists.stands }
 
--- ---- what the map answers of the group
+-- ---- the map's answers about the group
 
 module _ (g h : Geometry) (m : Entries) (group : ℕ) (same : h ≡ g) where
   pub has_own : (o : Option BlockPages) (own : Bool) → own ≡ is_some o → own ≡ true → IfSome o (IsDataBlock h m group) → HasBlockOrRoom g m group
@@ -73,7 +73,7 @@ module _ (old : Parts) (contents : Contents) (agree : PartsAgree old contents) (
 pub stays_way : (old : Parts) (contents : Contents) (group : ℕ) (list durable : CacheList) → PartsAgree old contents → HasBlockOrRoom old.geometry old.map.entries group → Lists old contents.flash.page list durable → GaveWay old.geometry old.map.entries group list list
 stays_way old contents group list durable agree room lists = none_way old.geometry old.map.entries contents.flash.page list agree.sound.whole lists.held group room
 
--- ---- after the victim went
+-- ---- after the victim was dropped
 
 module _ (g h : Geometry) (m n : Entries) (group gone : ℕ) (same : h ≡ g) (is : n ≡ dropped g m gone) where
   pub held_then : LacksRoom g m group → IsVictim g m gone → IsGroupHeld g m group → IsGroupHeld h n group
@@ -91,7 +91,7 @@ module _ (g h : Geometry) (m n : Entries) (group gone : ℕ) (same : h ≡ g) (i
   pub mapped_after : (last : Entries) → IsMerged h last group → OthersStay h group n last → PageMappedStay m last
   mapped_after last merged stay = mapped_then g m group gone last (page_mapped_stay g (dropped g m gone) group last (merged_then last merged) (stay_then last stay))
 
--- ---- where the group itself went
+-- ---- if the group itself was dropped
 
 module _ (g : Geometry) (m n : Entries) (group : ℕ) (is : n ≡ dropped g m group) where
   pub merged_gone : IsMerged g n group
@@ -100,11 +100,11 @@ module _ (g : Geometry) (m n : Entries) (group : ℕ) (is : n ≡ dropped g m gr
   pub mapped_gone : PageMappedStay m n
   mapped_gone = subst (λ (x : Entries). PageMappedStay m x) (sym is) (dropped_stay g m group group)
 
--- ---- what the flash stands for
+-- ---- the list for which the flash stands
 
 pub given_itself : (g : Geometry) (page : Place → Page) (durable list : CacheList) → FlashStandsForEither g page durable list → FlashStandsForGiven g page durable list
 given_itself g page durable list either = given_either g page durable list list (inl refl) either
 
--- the flash stands for the list that gave room already
+-- the flash stands for the list that has already given room
 pub given_after : (g h : Geometry) (page : Place → Page) (durable list v : CacheList) → h ≡ g → GivesRoom g list v → FlashStandsForEither h page v v → FlashStandsForGiven g page durable list
 given_after g h page durable list v same gives either = inr (v, gives, either_same g page v (subst (λ (k : Geometry). FlashStandsForEither k page v v) same either))

@@ -1,4 +1,4 @@
--- The entries where a group has moved into an erase block.
+-- The entries after a group has moved into an erase block.
 use Rattle.std.proofs.Common.{◌≡◌, ℕ, ◌/◌, ◌%◌, true, Option, Some, None, refl, sym, ◌∙◌, ap, ap₂, subst, inl, inr}
 use Rattle.std.specs.Option.{option_and_then}
 use Rattle.std.specs.FinMap.{get}
@@ -20,7 +20,7 @@ use Rattle.merge_engine.specs.Agreement.{AreOfOne, IsDataBlockOf}
 use Rattle.merge_engine.specs.Merges.{OthersStay, move_record, moved}
 use Rattle.merge_engine.proofs.MovedLemmas.{in_block, moved_here, moved_none, moved_from, moved_other}
 
--- the record of the sets that the map tells is the record of the move
+-- the record with the sets that the map gives is the record of the move
 module _ (parts : Parts) (group block present dirty : ℕ) (one : AreOfOne parts)
     (present_is : present ≡ chosen_of Held parts.map.geometry parts.map.entries group) (dirty_is : dirty ≡ chosen_of Dirty parts.map.geometry parts.map.entries group) where
   pub change_is : SetGroup group block present dirty ≡ move_record parts.geometry parts.map.entries group block
@@ -50,7 +50,7 @@ module _ (g : Geometry) (m n : Entries) (group block : ℕ) (is : n ≡ moved g 
   pub moved_there : IsGroupHeld g m group → IsDataBlockOf n block
   moved_there held = (held.0, in_block g m group block (held.0 % g.p) held.1, ap (λ k. get k held.0) is ∙ moved_here g m group block held.0 held.1 held.2 held.3, refl, refl)
 
-  -- where each page of the group holds the same in the block, the list is as it was
+  -- if each page of the group has the same contents in the block, the list is unchanged
   pub moved_held : (page : Place → Page) → ((a : ℕ) (e : Entry) → get m a ≡ Some e → a / g.p ≡ group → held_in e.dirty (page e.place) ≡ held_in e.dirty (page (record { block = block; page = a % g.p })))
       → (a : ℕ) → option_and_then (held_at page) (get m a) ≡ option_and_then (held_at page) (get n a)
   moved_held page copied a = elim (cases_eq (a / g.p) group) [

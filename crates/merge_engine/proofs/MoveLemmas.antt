@@ -1,4 +1,4 @@
--- What a group's move leaves, step by step.
+-- The state after a group's move, step by step.
 use Rattle.std.proofs.Common.{◌≡◌, ℕ, ◌/◌, ◌%◌, ◌≤◌, List, [], ◌∷◌, ◌++◌, Option, None, Some, refl, sym, ◌∙◌, ap, ap₂, subst, arith, inl, inr}
 use Rattle.std.specs.FinMap.{get}
 use Rattle.ft_base.specs.declared.geometry.Geometry.{Geometry}
@@ -31,11 +31,11 @@ use Rattle.merge_engine.proofs.TakeLemmas.{erased_pages}
 use Rattle.merge_engine.proofs.PutLemmas.{of_one_roles}
 use Rattle.merge_engine.proofs.MovedLemmas.{dropped_here, moved_from, moved_here, moved_other, dropped}
 
--- the list is the same, whatever the pool is used for
+-- the list is the same, whatever the roles of the pool
 pub lists_roles : (parts : Parts) (pool : PoolValue) (page : Place → Page) (list durable : CacheList) → Lists parts page list durable → Lists (record parts { pool = pool }) page list durable
 lists_roles parts pool page list durable lists = record { held = lists.held; stands = lists.stands }
 
--- an erase block is taken, which stays free: the parts agree with the flash where it is erased
+-- an erase block is taken, which stays free: the parts agree with the flash on which it is erased
 module _ (parts : Parts) (old new : Contents) (agree : PartsAgree parts old) (none : parts.log.buffered ≡ []) (block : ℕ) (free : IsFree parts.pool block)
     (pool : PoolValue) (same : pool.geometry ≡ parts.pool.geometry) (kept : (b : ℕ) → role_of pool b ≡ role_of parts.pool b)
     (shape : new.shape ≡ old.shape) (ok : new.flash ≡ after_erase old.flash block) where
@@ -126,11 +126,11 @@ module _ (g : Geometry) (m n : Entries) (group block : ℕ) (is : n ≡ moved g 
       subst (λ k. page' (record { block = k; page = a % g.p }) ≡ filler_page) (sym here)
       (stays (record { block = block; page = a % g.p }) high ∙ filled a b was.0 in_a (was_none a none in_a) in_b was.1 less)
 
--- where the group is gone, nothing of it is held
+-- if the group is dropped, none of its addresses is held
 pub fillers_gone : (g : Geometry) (m n : Entries) (group : ℕ) (page : Place → Page) → n ≡ dropped g m group → HasFillers g n group page
 fillers_gone g m n group page is a b e in_a none in_b there less = absurd (let gone = sym (dropped_here g m group b in_b) ∙ ap (λ (x : Entries). get x b) (sym is) ∙ there in cc)
 
--- ---- what a merge costs
+-- ---- the cost of a merge
 
 -- something is buffered once a record was
 pub pushed_some : (changes : List Record) (change : Record) → changes ++ change ∷ [] ≡ [] → ⊥
@@ -140,7 +140,7 @@ pushed_some (x ∷ xs) change none = absurd (cc)
 pub reach_still : (old mid : Parts) (group pages : ℕ) → mid ≡ old → ReachesTo old.geometry old.map.entries group pages → ReachesTo mid.geometry mid.map.entries group pages
 reach_still old mid group pages same reach = subst (λ (p : Parts). ReachesTo p.geometry p.map.entries group pages) (sym same) reach
 
--- nothing was buffered, so that the group was copied and one log page programmed
+-- nothing was buffered, so the group was copied and one log page was programmed
 pub moved_counts : (pages : ℕ) (old mid now last : State) → mid ≡ old → now.counts ≡ programs_counted pages (erase_counted mid.counts) → last.counts ≡ program_counted now.counts → last.counts ≡ move_counted pages old.counts
 moved_counts pages old mid now last same copied page = page ∙ ap program_counted copied ∙ ap (λ (s : State). program_counted (programs_counted pages (erase_counted s.counts))) same
 

@@ -1,4 +1,4 @@
--- The entries where a group stands in one erase block, and those without a group.
+-- The entries after a group moved into one erase block, and the entries without a group.
 use Rattle.std.proofs.Common.{◌≡◌, ℕ, suc, ◌+◌, ◌-◌, ◌*◌, ◌/◌, ◌%◌, ◌<◌, ◌≤◌, ◌==◌, ◌&&◌, nat_lt, Bool, true, false, cond, IsTrue, List, ◌∷◌, length, Option, Some, None, refl, sym, ◌∙◌, ap, subst, arith, inl, inr, bit_and, ◌||◌, eq-eqb, ne_eqb, lt-ltb}
 use Rattle.std.specs.Bool.{then_some}
 use Rattle.std.specs.FinMap.{get, entries}
@@ -34,7 +34,7 @@ use Rattle.mapping.proofs.SeekingLemmas.{none_some}
 abbrev pub dropped : Geometry → Entries → ℕ → Entries
 dropped g m group = after g (RemoveGroup group) m
 
--- what is chosen as held is there
+-- an entry that is chosen as held is there
 pub held_is_some : (o : Option Entry) → is_chosen Held o ≡ true → (e : Entry) × (o ≡ Some e)
 held_is_some None t = absurd (let f : is_chosen Held None ≡ false = refl in both_ways (is_chosen Held None) f t)
 held_is_some (Some e) t = (e, refl)
@@ -45,7 +45,7 @@ module _ (g : Geometry) (m : Entries) (group : ℕ) where
 
   -- ---- the sets of the group
 
-  -- a set of the group has the page of an address exactly where its entry is chosen
+  -- a set of the group has the page of an address exactly when its entry is chosen
   bit_is : (choice : Choice) (a : ℕ) → a / g.p ≡ group → has_bit (chosen_of choice g m group) (a % g.p) ≡ is_chosen choice (get m a)
   bit_is choice a same =
       bit_of_set (λ i. is_chosen choice (get m (group * g.p + i))) g.p (a % g.p)
@@ -93,9 +93,9 @@ module _ (g : Geometry) (m : Entries) (group : ℕ) where
   drop_fits is_map held = remove_group_fits g group m is_map (in_reach is_map held)
 
 module _ (g : Geometry) (m : Entries) (group block : ℕ) where
-  -- ---- what stands where
+  -- ---- the places of the entries
 
-  -- the entry as it stands in the data block
+  -- the entry, placed in the data block
   abbrev pub in_block : ℕ → Entry → Entry
   in_block page e = record { place = record { block = block; page = page }; dirty = e.dirty; block_mapped = true }
 
@@ -132,7 +132,7 @@ module _ (g : Geometry) (m : Entries) (group block : ℕ) where
   abbrev mapped_numbers : Entries → List ℕ
   mapped_numbers n = numbers (λ (x : ℕ × Entry). x.0 / g.p) (λ (e : Entry). e.block_mapped) (entries n)
 
-  -- the groups with a data block are those of before, and this one
+  -- the groups with a data block are the old ones, and this one
   few_blocks : IsMap g m → HasBlockOrRoom g m group → length (groups_with g (λ e. e.block_mapped) (moved g m group block)) ≤ g.c
   few_blocks is_map room =
       let with_it = each_once-le (mapped_numbers (moved g m group block)) (group ∷ mapped_numbers m) (λ n mem.
@@ -155,7 +155,7 @@ module _ (g : Geometry) (m : Entries) (group block : ℕ) where
           one_more true ns = omega arith
           one_more false ns = omega arith
 
-  -- nothing becomes dirty
+  -- no entry becomes dirty
   few_dirty : IsMap g m → length (groups_with g (λ e. e.dirty) (moved g m group block)) ≤ g.c
   few_dirty is_map =
       let fewer = count_le (λ x. x.0 / g.p) (λ e. e.dirty) (λ x. x.0 / g.p) (λ e. e.dirty) (moved g m group block) m (λ a e is t. elim (cases_eq (a / g.p) group) [
@@ -165,7 +165,7 @@ module _ (g : Geometry) (m : Entries) (group block : ℕ) where
       let most = is_map.dirty_groups in
       omega (arith, fewer, most)
 
-  -- the group may move into an erase block in which nothing of another group stands
+  -- the group may move into an erase block in which no entry of another group stands
   pub switch_fits : IsMap g m → IsGroupHeld g m group → HasBlockOrRoom g m group → IsInPool g block → ((a : ℕ) (e : Entry) → get m a ≡ Some e → (a / g.p ≡ group → ⊥) → e.place.block ≡ block → ⊥) → Fits g (move_record g m group block) m
   switch_fits is_map held room in_pool own = group_fits g m is_map group block (chosen_of Held g m group) (chosen_of Dirty g m group) (record {
     reach = (in_reach g m group is_map held, set_below (λ i. is_chosen Held (get m (group * g.p + i))) g.p, set_below (λ i. is_chosen Dirty (get m (group * g.p + i))) g.p);
@@ -179,7 +179,7 @@ module _ (g : Geometry) (m : Entries) (group block : ℕ) where
   pub move_fits : IsMap g m → IsGroupHeld g m group → HasBlockOrRoom g m group → IsInPool g block → StandsNoneIn m block → Fits g (move_record g m group block) m
   move_fits is_map held room in_pool unheld = switch_fits is_map held room in_pool (λ a e is other same. unheld a e is same)
 
-  -- ---- it can be spelled
+  -- ---- the record can be spelled
 
   pub move_spelled : IsGroupHeld g m group → IsTrue (may_stand_in (is_wide 2 g.p) log_page (move_record g m group block))
   move_spelled held =

@@ -37,7 +37,7 @@ use Rattle.merge_engine.specs.Steps.{FollowsGroup, IsNewPage}
 use Rattle.merge_engine.proofs.ChangeLemmas.{ChangesOne, roles_followed}
 use Rattle.merge_engine.proofs.TakeLemmas.{agree_map}
 
--- one record more, which fits
+-- one more record, which fits
 after_push : (g : Geometry) (rs : List Record) (r : Record) (m n : Entries) → after_all g rs m ≡ Some n → Fits g r n → after_all g (rs ++ r ∷ []) m ≡ Some (after g r n)
 after_push g [] r m n is fit =
     let same : m ≡ n = cc in
@@ -102,7 +102,7 @@ module _ (g : Geometry) (m : Entries) (lba : ℕ) (at : Place) (dirty : Bool) wh
   at_address : (a : ℕ) → get (after g (SetPage lba at dirty) m) a ≡ cond (a == lba) (Some there) (get m a)
   at_address a = get-after g (SetPage lba at dirty) m a
 
-  -- what holds of the new entry, and of those that were there, holds of all
+  -- a fact that holds of the new entry and of the old ones holds of all
   each_placed : (P : Entry → Type 0) → P there → ((a : ℕ) (e : Entry) → get m a ≡ Some e → P e) → (a : ℕ) (e : Entry) → get (after g (SetPage lba at dirty) m) a ≡ Some e → P e
   each_placed P here rest a e is = by (a == lba) (get m a) (rest a) (sym (at_address a) ∙ is)
     where
@@ -141,7 +141,7 @@ module _ (g : Geometry) (m : Entries) (lba : ℕ) (at : Place) (dirty : Bool) wh
       mapped_by true o e is is_mapped = absurd (let same : there ≡ e = cc in let no : e.block_mapped ≡ false = ap (λ (x : Entry). x.block_mapped) (sym same) in let both : true ≡ false = sym is_mapped ∙ no in cc)
       mapped_by false o e is is_mapped = (e, is, is_mapped, refl)
 
--- ---- an address that goes, or is clean
+-- ---- an address that is removed, or made clean
 
 pub less_removed : (g : Geometry) (lba : ℕ) (m : Entries) → IsLess (after g (Remove lba) m) m
 less_removed g lba m = record { entry = λ a e at. (e, taken (a == lba) (get m a) e (sym (get-after g (Remove lba) m a) ∙ at), (refl, refl, λ t. t)) }
@@ -197,7 +197,7 @@ cleaned_held g m lba page list on a = get_marked false lba list (get list lba) a
         by_page Torn = refl
     by false o = refl
 
--- a data block stays one where an address of it is made clean
+-- a data block stays one if an address of it is made clean
 pub cleaned_follows : (g : Geometry) (m : Entries) (lba group : ℕ) (pool : PoolValue) → FollowsGroup g group m (after g (Clean lba) m) pool pool
 cleaned_follows g m lba group pool = record {
   geometry = refl;

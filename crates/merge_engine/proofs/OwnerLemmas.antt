@@ -1,4 +1,4 @@
--- What stands in a log block whose groups are merged.
+-- The entries in a log block whose groups are merged.
 use Rattle.std.proofs.Common.{◌≡◌, ℕ, ◌+◌, ◌<◌, ◌/◌, true, Some, inl, inr, sym, ◌∙◌, ap, subst, arith}
 use Rattle.std.proofs.lemmas.Bool.{cases_lt}
 use Rattle.std.specs.FinMap.{get}
@@ -27,7 +27,7 @@ unowned_merged g old new at lba is_map roles used owns merged stay a e is here =
     never : e.block_mapped ≡ true → ⊥
     never = log_page_mapped new roles a e is (subst (λ (p : Place). IsInUse new.log_blocks p.block) (sym here) used)
 
--- nor at a page at which none did
+-- no entry stands at a page at which none did
 pub unowned_still : (old : Entries) (new : Parts) (at : Place) → RolesAgree new → IsInUse new.log_blocks at.block → PageMappedStay old new.map.entries → IsUnowned old at → IsUnowned new.map.entries at
 unowned_still old new at roles used stay none a e is here = elim (stay a e is) [
   | inl was ↦ none a e was here
@@ -47,6 +47,6 @@ none_before-more m block i before here page low = elim (cases_lt page i) [
 pub none_before-all : (g : Geometry) (m : Entries) (block : ℕ) → IsMap g m → NoneBefore m block g.p → StandsNoneIn m block
 none_before-all g m block is_map before a e is here = before e.place.page (is_map.in_pool a e is).page a e is (ap (λ b. record { block = b; page = e.place.page }) here)
 
--- where nothing stands in a block, nothing stands at a page of it
+-- if no entry stands in a block, none stands at a page of it
 pub unowned_in : (old now : Parts) (block page : ℕ) → now ≡ old → StandsNoneIn old.map.entries block → IsUnowned now.map.entries (record { block = block; page = page })
 unowned_in old now block page same unheld a e is here = unheld a e (subst (λ (p : Parts). get p.map.entries a ≡ Some e) same is) (ap (λ (p : Place). p.block) here)

@@ -39,7 +39,7 @@ use Rattle.merge_engine.proofs.FollowLemmas.{role_follows, page_mapped_follow, n
 use Rattle.merge_engine.proofs.MovedLemmas.{drop_fits, move_fits, move_spelled, dropped_here, dropped_other, dropped}
 use Rattle.merge_engine.proofs.MoveEntriesLemmas.{change_is, moved_entries, kept_role, moved_others, moved_was, moved_mapped, moved_left, moved_there, moved_held}
 
--- ---- one record more
+-- ---- one more record
 
 -- the parts with other entries, one record more and other roles
 abbrev pub noted : Parts → MapValue → Record → PoolValue → Parts
@@ -128,7 +128,7 @@ module _ (parts : Parts) (contents : Contents) (group : ℕ) (agree : PartsAgree
 
 -- ---- a group that moves
 
--- the copy is a whole page, and makes the same of the list
+-- the copy is a whole page, and adds the same block to the list
 copy_whole : (page : Place → Page) (from to : Place) → IsCopyOf page from to → is_whole (page to) ≡ true
 copy_whole page from to copied = ap is_whole copied.copy ∙ copied.whole
 
@@ -207,7 +207,7 @@ module _ (parts : Parts) (group block present dirty : ℕ) (one : AreOfOne parts
       stands = lists.stands;
     }
 
--- ---- the same of parts that are known by equations
+-- ---- the same for parts that are known by equations
 
 -- a change was noted
 pub as_noted : (old new : Parts) (change : Record) → OnlyMapLogPoolChange old new → new.log ≡ pushed change old.log → new ≡ noted old new.map change new.pool

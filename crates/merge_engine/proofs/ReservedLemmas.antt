@@ -1,4 +1,4 @@
--- Memory that the map takes changes nothing of the parts.
+-- The parts still agree after the map took memory.
 use Rattle.std.proofs.Common.{◌≡◌, ◌↔◌, ℕ, false, Some, sym, ◌∙◌, subst}
 use Rattle.std.specs.FinMap.{get}
 use Rattle.ft_base.specs.Contents.{Contents}

@@ -1,4 +1,4 @@
--- What a clause says of a result that is Ok.
+-- The meaning of a clause for a result that is `Ok`.
 use Rattle.std.proofs.Common.{◌≡◌, Result, Ok, Err, OnOk, IfOk, refl}
 
 pub on_ok_from : {T E P : Type 0} (r : Result T E) → ((v : T) → r ≡ Ok v → P) → OnOk r P

@@ -1,4 +1,4 @@
--- What the roles of the pool say of the entries.
+-- The meaning of the pool's roles for the entries.
 use Rattle.std.proofs.Common.{◌≡◌, ℕ, ◌-◌, ◌≤◌, true, length, Option, Some, None, IfSome, inl, inr, refl, sym, ◌∙◌, ap, subst, arith}
 use Rattle.std.specs.FinMap.{get}
 use Rattle.std.specs.Option.{unwrap_or}
@@ -18,7 +18,7 @@ use Rattle.merge_engine.specs.Agreement.{AreOfOne, RolesAgree}
 pub free_in_pool : (parts : Parts) → AreOfOne parts → (b : ℕ) → IsFree parts.pool b → IsInPool parts.geometry b
 free_in_pool parts one b free = subst (λ (g : Geometry). IsInPool g b) one.pool free.0
 
--- in a free block nothing stands
+-- no entry stands in a free block
 pub free_unheld : (parts : Parts) → AreOfOne parts → RolesAgree parts → (b : ℕ) → IsFree parts.pool b → StandsNoneIn parts.map.entries b
 free_unheld parts one roles b free a e is here = elim (cases_Bool e.block_mapped) [
   | inl t ↦ let kind : role_of parts.pool b ≡ Data = (roles.data_blocks b in_pool).1 (a, e, is, t, here) in let both : Data ≡ Free = sym kind ∙ free.1 in cc
@@ -35,7 +35,7 @@ free_not_in_use parts one roles b free used =
     let both : Log ≡ Free = sym log ∙ free.1 in
     cc
 
--- what stands in a log block is page-mapped
+-- an entry that stands in a log block is page-mapped
 pub log_page_mapped : (parts : Parts) → RolesAgree parts → (a : ℕ) (e : Entry) → get parts.map.entries a ≡ Some e → IsInUse parts.log_blocks e.place.block → e.block_mapped ≡ true → ⊥
 log_page_mapped parts roles a e is used mapped =
     let in_pool = roles.in_pool e.place.block used in
@@ -44,7 +44,7 @@ log_page_mapped parts roles a e is used mapped =
     let both : Data ≡ Log = sym kind ∙ log in
     cc
 
--- where the open log block has a page left, it is one of those in use
+-- if the open log block has a page left, it is in use
 pub open_in_use : (logs : LogBlocksValue) → list.AreSoundLogs logs → 1 ≤ logs.room → IsInUse logs (append_place logs).block
 open_in_use logs sound some = at logs.open_block refl sound.last
   where

@@ -9,14 +9,14 @@ use Rattle.cache_model.specs.CacheList.{CacheList, Held}
 use Rattle.cache_model.proofs.CountLemmas.{member, each_once-le, member_once}
 use Rattle.merge_engine.specs.Room.{GaveRoom, GivesRoom}
 
--- ---- a group more counts for no less
+-- ---- one more group doesn't lower the count
 
 with_group-more : (g : Geometry) (s : CacheList) (group : ℕ) → length (groups g s) ≤ length (with_group group (groups g s))
 with_group-more g s group =
     let all = map (λ (x : ℕ × Held). x.0 / g.p) (entries s) in
     each_once-le all (group ∷ each_once all) (λ n there. or_right (group == n) (member n (each_once all)) (member_once n all ∙ there))
 
--- ---- what went
+-- ---- the groups that gave room
 
 pub gave_vanish : (g : Geometry) (s v : CacheList) (a : ℕ) → GivesRoom g s v → Vanish g s a v
 gave_vanish g s v a (inl same) = record {
@@ -39,7 +39,7 @@ gone_twice true true o = refl
 gone_twice true false o = refl
 gone_twice false b o = refl
 
--- a group that stayed is as clean as it was
+-- a group that stayed is as clean as before
 clean_before : (g : Geometry) (s v : CacheList) (group : ℕ) → ((x : ℕ) → x / g.p ≡ group → get v x ≡ get s x) → IsWhollyClean g v group → IsWhollyClean g s group
 clean_before g s v group same clean = record {
   some = (clean.some.0, clean.some.1, sym (same clean.some.0 clean.some.3) ∙ clean.some.2, clean.some.3);

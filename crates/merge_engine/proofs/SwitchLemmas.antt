@@ -31,20 +31,20 @@ module _ (g : Geometry) (m : Entries) (group block : ℕ) (order : IsInOrder g m
   some_pages : 0 < g.p
   some_pages = omega (arith, g.in_range.p_low)
 
-  -- what is held of the group stands at its own page of the block
+  -- each held address of the group stands at its own page of the block
   pub own_page : (a : ℕ) (e : Entry) → get m a ≡ Some e → a / g.p ≡ group → e.place ≡ record { block = block; page = a % g.p }
   own_page a e is in_group =
       let whole : group * g.p + a % g.p ≡ a = ap (λ q. q * g.p + a % g.p) (sym in_group) ∙ div-add-mod' a g.p in
       one_place m a e (record { block = block; page = a % g.p }) is (subst (λ k. Owns m (record { block = block; page = a % g.p }) k) whole (order (a % g.p) (mod_below a g.p some_pages)))
 
-  -- and each address of it is held
+  -- each address of the group is held
   pub all_held : (a : ℕ) → a / g.p ≡ group → (e : Entry) × (get m a ≡ Some e)
   all_held a in_group =
       let whole : group * g.p + a % g.p ≡ a = ap (λ q. q * g.p + a % g.p) (sym in_group) ∙ div-add-mod' a g.p in
       let at = order (a % g.p) (mod_below a g.p some_pages) in
       (at.0, ap (get m) (sym whole) ∙ at.1)
 
-  -- nothing of another group stands in the block
+  -- no entry of another group stands in the block
   pub only_group : IsMap g m → (a : ℕ) (e : Entry) → get m a ≡ Some e → (a / g.p ≡ group → ⊥) → e.place.block ≡ block → ⊥
   only_group is_map a e is other here =
       let low = (is_map.in_pool a e is).page in
@@ -53,7 +53,7 @@ module _ (g : Geometry) (m : Entries) (group block : ℕ) (order : IsInOrder g m
       let same : a ≡ group * g.p + e.place.page = is_map.apart a (group * g.p + e.place.page) e at.0 is at.1 (place ∙ sym at.2) in
       other (ap (λ n. n / g.p) same ∙ div-mul-add group g.p e.place.page low)
 
--- a group stands in order in one block alone
+-- a group stands in order in only one block
 pub one_order : (g : Geometry) (m : Entries) (group b c : ℕ) → IsInOrder g m group b → IsInOrder g m group c → b ≡ c
 one_order g m group b c order other =
     let some : 0 < g.p = omega (arith, g.in_range.p_low) in
@@ -67,9 +67,9 @@ order_still g h m n group block same was order = λ page low.
     let at = subst (λ (k : Geometry). IsInOrder k n group block) same order page low in
     (at.0, was (group * g.p + page) at.0 at.1, at.2)
 
--- ---- what a switch merge leaves
+-- ---- the state after a switch merge
 
--- each address of the group is held, so that there is nothing to fill
+-- each address of the group is held, so there is nothing to fill
 pub fillers_switched : (g : Geometry) (m n : Entries) (group block : ℕ) (page : Place → Page) → IsInOrder g m group block → n ≡ moved g m group block → HasFillers g n group page
 fillers_switched g m n group block page order is a b e in_a none in_b there less =
     let x = all_held g m group block order a in_a in
@@ -82,7 +82,7 @@ is_switched old new group one block can also logs entries =
     let same = one_order old.geometry old.map.entries group one block can.in_order also.in_order in
     subst (λ k. IsSwitched old new group k) same (record { log_blocks = logs; entries = entries })
 
--- the parts with the logs that they have
+-- the parts with these log blocks
 pub with_logs : (old new : Parts) (logs : LogBlocksValue) → new ≡ record old { map = new.map; log = new.log; pool = new.pool; log_blocks = logs } → new ≡ record old { map = new.map; log = new.log; pool = new.pool; log_blocks = new.log_blocks }
 with_logs old new logs is = is ∙ ap (λ (l : LogBlocksValue). record old { map = new.map; log = new.log; pool = new.pool; log_blocks = l }) (sym (ap (λ (p : Parts). p.log_blocks) is))
 
@@ -98,7 +98,7 @@ logs_after old mid group gone same logs_are is logs (inr x) =
 
 -- ---- the log block that is freed
 
--- a group with a page in the log block can be switched to that block alone
+-- a group with a page in the log block can be switched only to that block
 pub logs_of_owner : (old : Parts) (lba : ℕ) (at : Place) (logs : LogBlocksValue) → Owns old.map.entries at lba → LogsStayOrSwitch old (lba / old.geometry.p) logs → LogsStayOrLose at.block old.log_blocks logs
 logs_of_owner old lba at logs owns (inl stays) = inl stays
 logs_of_owner old lba at logs owns (inr x) =
@@ -114,12 +114,12 @@ module _ (block : ℕ) (old mid : LogBlocksValue) where
   lose_then new (inr lost) (inl then) = inr (lost.0, then ∙ lost.1)
   lose_then new (inr lost) (inr then) = absurd (not_in_use old block (subst (λ (l : LogBlocksValue). IsInUse l block) lost.1 then.0))
 
-  -- there is no log block that wasn't one
+  -- no block has become a log block
   pub used_before : LogsStayOrLose block old mid → (b : ℕ) → IsInUse mid b → IsInUse old b
   used_before (inl stays) b used = subst (λ (l : LogBlocksValue). IsInUse l b) stays used
   used_before (inr lost) b used = was_in_use old block b (subst (λ (l : LogBlocksValue). IsInUse l b) lost.1 used)
 
-  -- once it is given back where it was still one, it is out of the list
+  -- once it is given back, if it still was a log block, it is out of the list
   pub lost_at_last : (new : LogBlocksValue) → LogsStayOrLose block old mid → IsInUse old block → (IsInUse mid block → new ≡ released block mid) → ((IsInUse mid block → ⊥) → new ≡ mid) → new ≡ released block old
   lost_at_last new (inl stays) used given kept = given (subst (λ (l : LogBlocksValue). IsInUse l block) (sym stays) used) ∙ ap (released block) stays
   lost_at_last new (inr lost) used given kept = kept (λ again. not_in_use old block (subst (λ (l : LogBlocksValue). IsInUse l block) lost.1 again)) ∙ lost.1

@@ -62,7 +62,7 @@ module _ (parts : Parts) (group block present dirty : ℕ) (one : AreOfOne parts
     entries_are : map.entries ≡ moved parts.geometry parts.map.entries group block
     entries_are = moved_entries parts group block present dirty one present_is dirty_is map.entries is
 
-    -- what stays stands at the same place
+    -- an entry that stays stands at the same place
     stays_at : (a : ℕ) (e : Entry) → get parts.map.entries a ≡ Some e → a / parts.geometry.p ≡ group → e.place ≡ record { block = block; page = a % parts.geometry.p }
     stays_at = own_page parts.geometry parts.map.entries group block switch.in_order
 
@@ -134,7 +134,7 @@ module _ (parts : Parts) (group block present dirty : ℕ) (one : AreOfOne parts
       stands = lists.stands;
     }
 
--- ---- the same of parts that are known by equations
+-- ---- the same for parts that are known by equations
 
 -- the record was noted, the log block is out of the list, and it has its role
 pub as_switched : (old noted : Parts) (change : Record) (pool : PoolValue) (logs : LogBlocksValue) (block : ℕ) → OnlyMapLogPoolChange old noted → noted.log ≡ pushed change old.log → logs ≡ released block noted.log_blocks
@@ -144,7 +144,7 @@ as_switched old noted change pool logs block is log out =
     ∙ ap (λ (p : Parts). record p { pool = pool; log_blocks = released block old.log_blocks }) is
     ∙ ap (λ (l : LogValue). record old { map = noted.map; log = l; pool = pool; log_blocks = released block old.log_blocks }) log
 
--- they are of one geometry
+-- the parts are of one geometry
 pub of_one_switched : (parts : Parts) (pool : PoolValue) (logs : LogBlocksValue) → pool.geometry ≡ parts.pool.geometry → logs.geometry ≡ parts.log_blocks.geometry → AreOfOne parts → AreOfOne (record parts { pool = pool; log_blocks = logs })
 of_one_switched parts pool logs same of_logs one = record { map = one.map; log = one.log; pool = same ∙ one.pool; victims = one.victims; log_blocks = of_logs ∙ one.log_blocks; checkpoints = one.checkpoints }
 

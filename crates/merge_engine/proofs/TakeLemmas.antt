@@ -1,4 +1,4 @@
--- A free block is erased when it is taken: nothing looks at it.
+-- A free block is erased when it is taken, because nothing reads it.
 use Rattle.std.proofs.Common.{◌≡◌, ℕ, ◌<◌, ◌==◌, cond, [], Some, inl, inr, eqb-true, sym, ◌∙◌, ap, subst, arith}
 use Rattle.ft_base.specs.declared.geometry.Geometry.{Geometry}
 use Rattle.std.proofs.lemmas.Bool.{cases_Bool}
@@ -25,11 +25,11 @@ use Rattle.merge_engine.proofs.FreeLemmas.{free_block}
 pub agree_map : (parts : Parts) (contents : Contents) → PartsAgree parts contents → IsMap parts.geometry parts.map.entries
 agree_map parts contents agree = subst (λ (g : Geometry). IsMap g parts.map.entries) agree.sound.of_one.log (current_map parts.log contents.flash.page parts.map.entries agree.sound.current)
 
--- where the parts agree a block is free
+-- if the parts agree, a block is free
 pub one_is_free : (parts : Parts) (contents : Contents) → PartsAgree parts contents → (b : ℕ) × IsFree parts.pool b
 one_is_free parts contents agree = free_block parts agree.sound.of_one (agree_map parts contents agree) agree.sound.roles agree.sound.log_blocks
 
--- an erase leaves pages as they were, or blank in its block
+-- an erase leaves pages unchanged, or blank in its block
 pub erased_pages : (old new : Flash) (block : ℕ) → new ≡ after_erase old block → PagesErased old new block
 erased_pages old new block ok = subst (λ (f : Flash). PagesErased old f block) (sym ok) (λ at. elim (cases_Bool (at.block == block)) [
   | inl t ↦ inr (eqb-true _ _ t, inl (ap (λ b. cond b Blank (old.page at)) t))

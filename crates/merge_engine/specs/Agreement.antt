@@ -28,27 +28,27 @@ pub record AreOfOne (parts : Parts) : Type 0 where
   pub log_blocks : parts.log_blocks.geometry ≡ parts.geometry
   pub checkpoints : parts.checkpoints ≡ parts.geometry
 
--- something stands in the erase block as in a data block
+-- some entry stands in the erase block as in a data block
 abbrev pub IsDataBlockOf : Entries → ℕ → Type 0
 IsDataBlockOf m block = (a : ℕ) × (e : Entry) × (get m a ≡ Some e) × (e.block_mapped ≡ true) × (e.place.block ≡ block)
 
--- something of the group stands in the erase block as in its data block
+-- some entry of the group stands in the erase block as in its data block
 abbrev pub IsGroupBlock : Geometry → Entries → ℕ → ℕ → Type 0
 IsGroupBlock g m group block = (a : ℕ) × (e : Entry) × (get m a ≡ Some e) × (a / g.p ≡ group) × (e.block_mapped ≡ true)
     × (e.place.block ≡ block)
 
--- the roles of the pool are what the map and the log blocks use it for
+-- the roles of the pool are the uses that the map and the log blocks make of it
 pub record RolesAgree (parts : Parts) : Type 0 where
   pub data_blocks : (b : ℕ) → IsInPool parts.geometry b → (role_of parts.pool b ≡ Data) ↔ IsDataBlockOf parts.map.entries b
   pub log_blocks : (b : ℕ) → IsInPool parts.geometry b → (role_of parts.pool b ≡ Log) ↔ IsInUse parts.log_blocks b
   pub in_pool : (b : ℕ) → IsInUse parts.log_blocks b → IsInPool parts.geometry b
   pub page_mapped : (a : ℕ) (e : Entry) → get parts.map.entries a ≡ Some e → e.block_mapped ≡ false → IsInUse parts.log_blocks e.place.block
 
--- where the open log block has a page left, that page is the next one of an erase block that is ready
+-- if the open log block has a page left, that page is the next one of an erase block that is ready
 abbrev pub IsOpenBlock : LogBlocksValue → Flash → Type 0
 IsOpenBlock logs flash = 1 ≤ logs.room → IsNextPage (append_place logs) flash
 
--- the parts agree with the flash, but for the pages of the log
+-- the parts agree with the flash, except for the pages of the log
 pub record ArePartsSound (parts : Parts) (contents : Contents) : Type 0 where
   pub of_one : AreOfOne parts
   pub shape : FitsOn parts.geometry contents.shape
@@ -69,7 +69,7 @@ pub record PartsAgree (parts : Parts) (contents : Contents) : Type 0 where
 abbrev pub IsListOn : (Place → Page) → Entries → CacheList → Type 0
 IsListOn page m s = (a : ℕ) → get s a ≡ option_and_then (held_at page) (get m a)
 
--- the map is this list on the flash; and the flash, loaded now, stands for the durable one
+-- the map is this list on the flash; and the flash, loaded now, stands for the list `durable`
 pub record Lists (parts : Parts) (page : Place → Page) (list durable : CacheList) : Type 0 where
   pub held : IsListOn page parts.map.entries list
   pub stands : FlashStandsFor parts.geometry page durable

@@ -1,4 +1,4 @@
--- What the steps ask of a cache, and what each of them keeps.
+-- The preconditions of the steps, and the facts that each of them keeps.
 use Rattle.std.specs.Prelude.{◌≡◌, ◌≢◌, ◌≤◌, ◌<◌, ◌+◌, ℕ, [], length, Result, OnOk}
 use Rattle.ft_base.specs.declared.geometry.Geometry.{Geometry}
 use Rattle.ft_base.specs.declared.block.Place.{Place}
@@ -22,31 +22,31 @@ use Rattle.merge_engine.specs.Room.{FlashStandsForGiven, GaveWay, HasNoCandidate
 use Rattle.merge_engine.specs.Steps.{GoesOn, HasFillers, IsMerged, KeepsList}
 use Rattle.merge_engine.specs.Switch.{CanSwitch, CannotSwitch, IsSwitched}
 
--- ---- what a step asks
+-- ---- the preconditions of a step
 
--- the map has memory for so many more pages and groups, and the buffer a place for one more record
+-- the map has memory for p more pages and n more groups, and the buffer has room for one more record
 pub record CanNote (parts : Parts) (p n : ℕ) : Type 0 where
   pub pages : p ≤ parts.map.spare_pages
   pub groups : n ≤ parts.map.spare_groups
   pub room : length parts.log.buffered < page_records parts.log.geometry
 
--- the parts agree with the flash, the map has memory for so many more groups, and the buffer a place for one more record
+-- the parts agree with the flash, the map has memory for n more groups, and the buffer has room for one more record
 pub record CanGoOn (parts : Parts) (contents : Contents) (n : ℕ) : Type 0 where
   pub agree : PartsAgree parts contents
   pub groups : n ≤ parts.map.spare_groups
   pub room : length parts.log.buffered < page_records parts.log.geometry
 
--- ---- which parts it changes
+-- ---- the parts that a step changes
 
--- nothing but the map, the log and the pool
+-- only the map, the log and the pool change
 abbrev pub OnlyMapLogPoolChange : Parts → Parts → Type 0
 OnlyMapLogPoolChange old new = new ≡ record old { map = new.map; log = new.log; pool = new.pool }
 
--- nothing but the pool and the log blocks
+-- only the pool and the log blocks change
 abbrev pub OnlyPoolLogBlocksChange : Parts → Parts → Type 0
 OnlyPoolLogBlocksChange old new = new ≡ record old { pool = new.pool; log_blocks = new.log_blocks }
 
--- ---- what it keeps of the map's memory
+-- ---- how a step keeps the map's memory
 
 -- the map with this change made in it, and without the memory that it took
 pub record IsNoted (g : Geometry) (change : Record) (old new : MapValue) : Type 0 where
@@ -56,7 +56,7 @@ pub record IsNoted (g : Geometry) (change : Record) (old new : MapValue) : Type 
   pub buckets : new.buckets ≡ old.buckets
   pub group_buckets : new.group_buckets ≡ old.group_buckets
 
--- the map has memory for as many pages as before, and for no more groups, and at most so many fewer; its buckets stay
+-- the map has memory for equally many pages, for no more groups, and for at most n fewer; its buckets stay
 pub record KeepsRoom (old new : MapValue) (n : ℕ) : Type 0 where
   pub pages : new.spare_pages ≡ old.spare_pages
   pub groups : old.spare_groups ≤ new.spare_groups + n
@@ -64,14 +64,15 @@ pub record KeepsRoom (old new : MapValue) (n : ℕ) : Type 0 where
   pub buckets : new.buckets ≡ old.buckets
   pub group_buckets : new.group_buckets ≡ old.group_buckets
 
--- ---- what it keeps of the list
+-- ---- how a step keeps the list
 
--- on this flash the parts agree as they did, and the list is the same
+-- on this flash the parts still agree, and the list is the same
 pub record StaysOn (old new : Parts) (contents : Contents) : Type 0 where
   pub agree : PartsAgree old contents → PartsAgree new contents
   pub lists : (list durable : CacheList) → Lists old contents.flash.page list durable → Lists new contents.flash.page list durable
 
--- Ok, nothing is buffered any more, and the list stays; whatever is answered, the flash stands for it, or for the one that it stood for
+-- after `Ok` nothing is buffered any longer, and the list is unchanged. Whatever the call answers, the flash stands for
+-- the list, or for the same list as before
 pub record CommitsList {T : Type 0} (old new : Parts) (before now : Contents) (result : Result T MediaError) : Type 0 where
   pub agree : OnOk result (PartsAgree new now)
   pub nothing_waits : OnOk result (new.log.buffered ≡ [])
@@ -79,7 +80,7 @@ pub record CommitsList {T : Type 0} (old new : Parts) (before now : Contents) (r
   pub stands : (list durable : CacheList) → Lists old before.flash.page list durable
       → FlashStandsForEither old.geometry now.flash.page durable list
 
--- the same of a merge of the group, for which a group may have given way, another or the group itself
+-- the same for a merge of the group, in which a group may have given way, either another one or the group itself
 pub record MergesList {T : Type 0} (old new : Parts) (group : ℕ) (before now : Contents) (result : Result T MediaError) : Type 0 where
   pub agree : OnOk result (PartsAgree new now)
   pub nothing_waits : OnOk result (new.log.buffered ≡ [])
@@ -88,8 +89,8 @@ pub record MergesList {T : Type 0} (old new : Parts) (group : ℕ) (before now :
   pub stands : (list durable : CacheList) → Lists old before.flash.page list durable
       → FlashStandsForGiven old.geometry now.flash.page durable list
 
--- Ok, one more record may be buffered, and the list stays or gave room; whatever is answered, the flash stands for it, or for the
--- one that it stood for
+-- after `Ok` one more record may be buffered, and the list is unchanged or gave room. Whatever the call answers, the
+-- flash stands for it, or for the same list as before
 pub record KeepsOrGives {T : Type 0} (old new : Parts) (before now : Contents) (result : Result T MediaError) : Type 0 where
   pub agree : OnOk result (PartsAgree new now)
   pub room : OnOk result (length new.log.buffered < page_records new.log.geometry)
@@ -98,7 +99,7 @@ pub record KeepsOrGives {T : Type 0} (old new : Parts) (before now : Contents) (
   pub stands : (list durable : CacheList) → Lists old before.flash.page list durable
       → FlashStandsForGiven old.geometry now.flash.page durable list
 
--- nothing gives way: the map stays, and so does the list
+-- no group gives way: the map stays, and so does the list
 pub record NothingGivesWay {T : Type 0} (old new : Parts) (before now : Contents) (result : Result T MediaError) : Type 0 where
   pub map_stays : new.map ≡ old.map
   pub list_stands : (list durable : CacheList) → Lists old before.flash.page list durable
@@ -106,34 +107,37 @@ pub record NothingGivesWay {T : Type 0} (old new : Parts) (before now : Contents
   pub list_stays : OnOk result ((list durable : CacheList) → Lists old before.flash.page list durable
       → KeepsList old.log new now.flash.page list durable)
 
--- ---- what a merge leaves, and what it costs
+-- ---- the state after a merge, and its cost
 
--- what is held of the group stands in its data block, in which fillers are between
+-- all held blocks of the group stand in its data block, with fillers between them
 pub record IsGathered (g : Geometry) (m : Entries) (group : ℕ) (page : Place → Page) : Type 0 where
   pub merged : IsMerged g m group
   pub filled : HasFillers g m group page
 
--- a copy, if the log has a page left for each commit: one erase, a program for each page up to the last held one, and one for the
--- log page; with something buffered one program more, for a log page of its own
+-- the cost of a copy, if the log has a page left for each commit. It makes one erase, a program for each page up to the
+-- last held one, and one for the log page. If something is buffered, one more program is made, for a log page of its
+-- own
 pub record CostsOfCopy (old : Parts) (group : ℕ) (before now : Counts) : Type 0 where
   pub counts : old.log.buffered ≡ [] → old.log.next < log_pages old.geometry
       → (pages : ℕ) → ReachesTo old.geometry old.map.entries group pages → now ≡ move_counted pages before
   pub one_more : old.log.buffered ≢ [] → old.log.next + 1 < log_pages old.geometry
       → (pages : ℕ) → ReachesTo old.geometry old.map.entries group pages → now ≡ move_counted pages (program_counted before)
 
--- the block that the pool takes next is the group's data block: all that is held of the group stands there, marked as it was
+-- the block that the pool takes next is the group's data block. All held blocks of the group stand there, with their
+-- old marks
 abbrev pub TakesDataBlock : Parts → Parts → ℕ → Type 0
 TakesDataBlock old new group = (block : ℕ) × IsNextTaken old.pool block × (new.map.entries ≡ moved old.geometry old.map.entries group block)
 
--- a log block that can become the data block does, with one program and no erase if the log has a page left; if none can, the group is
--- copied into a block that is taken
+-- a log block that can become the data block does, with one program and no erase if the log has a page left. If none
+-- can, the group is copied into a block that is taken
 pub record CostsOfMove (old new : Parts) (group : ℕ) (before now : Counts) : Type 0 where
   pub switched : (block : ℕ) → CanSwitch old group block → IsSwitched old new group block
   pub one_program : (block : ℕ) → CanSwitch old group block → old.log.next < log_pages old.geometry → now ≡ program_counted before
   pub taken : CannotSwitch old group → TakesDataBlock old new group
   pub copied : CannotSwitch old group → CostsOfCopy old group before now
 
--- another group gives way, and the log has a page left for both commits: one program for its record, and those of the move
+-- another group gives way, and the log has a page left for both commits: one program for its record, and the programs
+-- of the move
 pub record CostsOfWay (old new : Parts) (group : ℕ) (before now : Counts) : Type 0 where
   pub switched : (block : ℕ) → CanSwitch old group block → new.log_blocks ≡ released block old.log_blocks
   pub two_programs : (block : ℕ) → CanSwitch old group block → old.log.next + 1 < log_pages old.geometry
@@ -141,8 +145,8 @@ pub record CostsOfWay (old new : Parts) (group : ℕ) (before now : Counts) : Ty
   pub copied : CannotSwitch old group → old.log.next + 1 < log_pages old.geometry
       → (pages : ℕ) → ReachesTo old.geometry old.map.entries group pages → now ≡ move_counted pages (program_counted before)
 
--- a merge costs the move of the group if no group gives way; its record too if another one does; and its record alone if the group
--- itself does
+-- a merge costs the move of the group if no group gives way. If another group does, its record is added. If the group
+-- itself does, its record is the only cost
 pub record CostsOfMerge (old new : Parts) (group : ℕ) (before now : Counts) : Type 0 where
   pub moved : HasBlockOrRoom old.geometry old.map.entries group → CostsOfMove old new group before now
   pub way : LacksRoom old.geometry old.map.entries group → (gone : ℕ) → IsCandidate old.geometry old.map.entries gone

@@ -1,4 +1,4 @@
--- What becomes of the log blocks when the open one has no page left.
+-- How the log blocks change when the open one has no page left.
 use Rattle.std.specs.Prelude.{◌≡◌, ◌≢◌, ◌↔◌, ◌<◌, ◌≤◌, ℕ, Bool, true, false, List, [], ◌∷◌, ◌++◌, filter, slice_get, Some}
 use Rattle.ft_base.specs.Layout.{log_pages}
 use Rattle.ft_media.specs.declared.rig.Counts.{Counts}
@@ -15,7 +15,7 @@ use Rattle.merge_engine.specs.declared.parts.Parts.{Parts}
 use Rattle.merge_engine.specs.Room.{FreesGroups}
 use Rattle.merge_engine.specs.Steps.{CanBeginLog, HasLogBlock}
 
--- of the log blocks in this list those are left in which something stands, in their order
+-- exactly the log blocks of the old list in which some entry stands are left, in their order
 pub record AreHeldLogs (m : Entries) (old new : List ℕ) : Type 0 where
   pub holds : ℕ → Bool
   pub unheld : (b : ℕ) → is_in b old ≡ true → (holds b ≡ false) ↔ StandsNoneIn m b
@@ -29,20 +29,20 @@ LosesOldest old new = (oldest : ℕ) → slice_get old 0 ≡ Some oldest → new
 abbrev pub NeedsMerge : Parts → Type 0
 NeedsMerge parts = HasLogBlock parts → ⊥
 
--- the log blocks left and the pool, once there is room for one more log block: if that takes no merge, each in which nothing stands is
--- out of the list, and no block was erased; else the oldest alone is out of it
+-- the log blocks that are left, and the pool, once there is room for one more log block. If that takes no merge, each
+-- log block without an entry is out of the list, and no block was erased. Else only the oldest is out of the list
 pub record MakesRoom (old : Parts) (left : List ℕ) (pool : PoolValue) : Type 0 where
   pub unheld : CanBeginLog old → AreHeldLogs old.map.entries old.log_blocks.used left
   pub erases : CanBeginLog old → (b : ℕ) → erases_of pool b ≡ erases_of old.pool b
   pub oldest : (CanBeginLog old → ⊥) → LosesOldest old.log_blocks.used left
 
--- the block is a log block, and nothing else of the pool changed
+-- the block has the role of a log block, and nothing else of the pool changed
 pub record UsedAsLog (old new : PoolValue) (block : ℕ) : Type 0 where
   pub role : role_of new block ≡ Log
   pub others : (b : ℕ) → IsInPool old.geometry b → b ≢ block → role_of new b ≡ role_of old b
   pub erases : (b : ℕ) → erases_of new b ≡ erases_of old b
 
--- the block that the pool takes next is a log block, erased once more; each other one is used as before
+-- the block that the pool takes next is a log block, erased once more; each other block has its old role
 pub record TakenAsLog (old new : PoolValue) (block : ℕ) : Type 0 where
   pub next : IsNextTaken old block
   pub erased : ErasedOnce old new block
@@ -54,8 +54,8 @@ pub record TakesLogBlock (old new : Parts) (block : ℕ) : Type 0 where
   pub logs : new.log_blocks ≡ block_begun block old.log_blocks
   pub taken : TakenAsLog old.pool new.pool block
 
--- a log block was begun: once there was room, the block that the pool takes next is the last and the open one, with so many pages left;
--- and all that was buffered is on the flash
+-- a log block was begun. Once there was room, the block that the pool takes next is the last log block and the open
+-- one, with this many pages left. All buffered records are on the flash
 pub record BeginsLog (old new : Parts) (pages : ℕ) : Type 0 where
   pub left : List ℕ
   pub pool : PoolValue
@@ -71,14 +71,14 @@ abbrev pub FreesOldest : Parts → Parts → Type 0
 FreesOldest old new = (oldest : ℕ) → slice_get old.log_blocks.used 0 ≡ Some oldest
     → FreesGroups old.geometry oldest old.map.entries new.map.entries
 
--- the counts after an erase block was taken: one erase; if something was buffered, one program before it, or a checkpoint if the log had
--- no page left
+-- the counts after an erase block was taken: one erase. If something was buffered, one program was made before it, or a
+-- checkpoint if the log had no page left
 pub record CostsOfTaking (old : Parts) (before now : Counts) : Type 0 where
   pub counts : old.log.buffered ≡ [] → now ≡ erase_counted before
   pub one_more : old.log.buffered ≢ [] → old.log.next < log_pages old.geometry → now ≡ erase_counted (program_counted before)
   pub checkpoint : old.log.buffered ≢ [] → log_pages old.geometry ≤ old.log.next
       → now ≡ erase_counted (checkpoint_counted old.log.geometry (map_pages old.log.geometry old.map.records) before)
 
--- and after the first page of it was programmed
+-- the counts after the first page of that block was programmed
 abbrev pub CostsOfBeginning : Parts → Counts → Counts → Type 0
 CostsOfBeginning old before now = (taken : Counts) × CostsOfTaking old before taken × (now ≡ program_counted taken)

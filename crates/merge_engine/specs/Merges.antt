@@ -1,4 +1,4 @@
--- What a merge makes of the entries and of the list.
+-- How a merge changes the entries and the list.
 use Rattle.std.specs.Prelude.{◌≡◌, ◌⊎◌, ◌<◌, ◌/◌, ◌%◌, ◌+◌, ℕ, Some, not}
 use Rattle.std.specs.FinMap.{get, retain_keys}
 use Rattle.ft_base.specs.declared.geometry.Geometry.{Geometry}
@@ -18,11 +18,11 @@ use Rattle.mapping.specs.Bits.{chosen_of}
 use Rattle.mapping.specs.Counts.{data_block_count}
 use Rattle.silent_evict.specs.Candidates.{HasDataBlock}
 
--- the record by which all that is held of the group stands in this erase block
+-- the record that puts all held blocks of the group into this erase block
 abbrev pub move_record : Geometry → Entries → ℕ → ℕ → Record
 move_record g m group block = SetGroup group block (chosen_of Held g m group) (chosen_of Dirty g m group)
 
--- the entries where the group stands in this erase block
+-- the entries after the group moved into this erase block
 abbrev pub moved : Geometry → Entries → ℕ → ℕ → Entries
 moved g m group block = after g (move_record g m group block) m
 
@@ -34,17 +34,17 @@ list_without g group s = retain_keys s (λ a. not (is_in_group g group a))
 abbrev pub HasBlockOrRoom : Geometry → Entries → ℕ → Type 0
 HasBlockOrRoom g m group = HasDataBlock g m group ⊎ (data_block_count g m < g.c)
 
--- beside a group, entries stay
+-- entries of other groups stay
 abbrev pub OthersStay : Geometry → ℕ → Entries → Entries → Type 0
 OthersStay g group old new = (a : ℕ) → (a / g.p ≡ group → ⊥) → get new a ≡ get old a
 
--- the flash stands for one list or for another
+-- the flash stands for one of two lists
 abbrev pub FlashStandsForEither : Geometry → (Place → Page) → CacheList → CacheList → Type 0
 FlashStandsForEither g page s t = FlashStandsFor g page s ⊎ FlashStandsFor g page t
 
--- ---- what a merge costs
+-- ---- the cost of a merge
 
--- the pages of the group up to the last held one are so many
+-- the group has this many pages up to the last held one
 pub record ReachesTo (g : Geometry) (m : Entries) (group pages : ℕ) : Type 0 where
   pub last : ℕ
   pub entry : Entry
@@ -53,6 +53,6 @@ pub record ReachesTo (g : Geometry) (m : Entries) (group pages : ℕ) : Type 0 w
   pub number : last % g.p + 1 ≡ pages
   pub all : (a : ℕ) (e : Entry) → get m a ≡ Some e → a / g.p ≡ group → a % g.p < pages
 
--- the counts after a group of so many pages was moved: one erase, a program for each page, and one for the log page
+-- the counts after a group of this many pages was moved: one erase, a program for each page, and one for the log page
 abbrev pub move_counted : ℕ → Counts → Counts
 move_counted pages counts = program_counted (programs_counted pages (erase_counted counts))

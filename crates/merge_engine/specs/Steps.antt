@@ -1,4 +1,4 @@
--- What the steps leave.
+-- The parts and the flash after a step.
 use Rattle.std.specs.Prelude.{◌≡◌, ◌⊎◌, ◌≤◌, ◌<◌, ◌/◌, ◌%◌, ℕ, true, [], length, Some, None}
 use Rattle.std.specs.FinMap.{get}
 use Rattle.ft_base.specs.declared.block.Block.{Block}
@@ -25,13 +25,14 @@ use Rattle.block_pool.specs.declared.pool.Role.TheVariants.{Free}
 use Rattle.merge_engine.specs.Agreement.{Lists, IsGroupBlock}
 use Rattle.merge_engine.specs.Room.{GivesRoom}
 
--- what was buffered still is, and the list stays; or all is on the flash, and the list may have given room
+-- the buffered records still are buffered, and the list stays; or all records are on the flash, and the list may have
+-- given room
 abbrev pub GoesOn : LogValue → Parts → (Place → Page) → CacheList → CacheList → Type 0
 GoesOn log parts page list durable =
     ((parts.log ≡ log) × Lists parts page list durable)
     ⊎ ((parts.log.buffered ≡ []) × ((v : CacheList) × GivesRoom parts.geometry list v × Lists parts page v v))
 
--- what was buffered still is, or all is on the flash; and the list stays
+-- the buffered records still are buffered, or all are on the flash; and the list stays
 abbrev pub KeepsList : LogValue → Parts → (Place → Page) → CacheList → CacheList → Type 0
 KeepsList log parts page list durable =
     ((parts.log ≡ log) × Lists parts page list durable)
@@ -44,13 +45,13 @@ pub record IsNewPage (parts : Parts) (page : Place → Page) (at : Place) (lba :
   pub in_block : at.page < parts.geometry.p
   pub unused : (a : ℕ) (e : Entry) → get parts.map.entries a ≡ Some e → e.place ≡ at → ⊥
 
--- the group's data block of before is free where it no longer is that, and every other role stays
+-- if the group's old data block no longer is its data block, it is free; every other role stays
 pub record FollowsGroup (g : Geometry) (group : ℕ) (m m' : Entries) (old new : PoolValue) : Type 0 where
   pub geometry : new.geometry ≡ old.geometry
   pub freed : (b : ℕ) → IsInPool g b → IsGroupBlock g m group b → (IsGroupBlock g m' group b → ⊥) → role_of new b ≡ Free
   pub kept : (b : ℕ) → IsInPool g b → (IsGroupBlock g m group b → IsGroupBlock g m' group b) → role_of new b ≡ role_of old b
 
--- a whole page, and the same at the other place, block and spare bytes
+-- a whole page, and the same block and spare bytes at the other place
 pub record IsCopyOf (page : Place → Page) (from to : Place) : Type 0 where
   pub whole : is_whole (page from) ≡ true
   pub copy : page to ≡ page from
@@ -64,17 +65,17 @@ IsCopied g m group block page = (a : ℕ) (e : Entry) → get m a ≡ Some e →
 abbrev pub filler_page : Page
 filler_page = Whole zero_block (record { 0 = spelled_spare (spare_fields Filler 0 0) })
 
--- each page of the erase block before the last held one of the group that no held address has is a filler
+-- a page of the erase block before the group's last held one is a filler, if no held address has it
 abbrev pub IsFilledUp : Geometry → Entries → ℕ → ℕ → (Place → Page) → Type 0
 IsFilledUp g m group block page = (a b : ℕ) (e : Entry) → a / g.p ≡ group → get m a ≡ None → b / g.p ≡ group → get m b ≡ Some e → a < b
     → page (record { block = block; page = a % g.p }) ≡ filler_page
 
--- each page of the group's data block before the last held one that no held address has is a filler
+-- a page of the group's data block before its last held one is a filler, if no held address has it
 abbrev pub HasFillers : Geometry → Entries → ℕ → (Place → Page) → Type 0
 HasFillers g m group page = (a b : ℕ) (e : Entry) → a / g.p ≡ group → get m a ≡ None → b / g.p ≡ group → get m b ≡ Some e → a < b
     → page (record { block = e.place.block; page = a % g.p }) ≡ filler_page
 
--- each address of the group that is held stands in its data block
+-- each held address of the group stands in its data block
 abbrev pub IsMerged : Geometry → Entries → ℕ → Type 0
 IsMerged g m group = (a : ℕ) (e : Entry) → get m a ≡ Some e → a / g.p ≡ group → e.block_mapped ≡ true
 
@@ -82,11 +83,11 @@ IsMerged g m group = (a : ℕ) (e : Entry) → get m a ≡ Some e → a / g.p �
 abbrev pub PageMappedStay : Entries → Entries → Type 0
 PageMappedStay old new = (a : ℕ) (e : Entry) → get new a ≡ Some e → (get old a ≡ Some e) ⊎ (e.block_mapped ≡ true)
 
--- the groups with a dirty entry, together with that of an address
+-- how many groups have a dirty entry, with the group of an address counted too
 abbrev pub dirty_groups_with : Geometry → Entries → ℕ → ℕ
 dirty_groups_with g m a = length (with_group (a / g.p) (groups_with g (λ e. e.dirty) m))
 
--- they are few enough that the address may become dirty
+-- there are few enough such groups that the address may become dirty
 abbrev pub HasRoomFor : Geometry → Entries → ℕ → Type 0
 HasRoomFor g m a = dirty_groups_with g m a ≤ g.c
 
@@ -100,14 +101,14 @@ pub record IsNextFreePage (parts : Parts) (flash : Flash) (at : Place) : Type 0 
 abbrev pub IsUnowned : Entries → Place → Type 0
 IsUnowned m at = (a : ℕ) (e : Entry) → get m a ≡ Some e → e.place ≡ at → ⊥
 
--- nothing stands in one of the log blocks in use
+-- no entry stands in one of the log blocks in use
 abbrev pub HasUnheldLog : Parts → Type 0
 HasUnheldLog parts = (b : ℕ) × IsInUse parts.log_blocks b × StandsNoneIn parts.map.entries b
 
--- a log block can be begun without a merge: fewer than L are in use, or nothing stands in one of them
+-- a log block can be begun without a merge: fewer than L are in use, or one of them has no entry
 abbrev pub CanBeginLog : Parts → Type 0
 CanBeginLog parts = (length parts.log_blocks.used < parts.geometry.l) ⊎ HasUnheldLog parts
 
--- a log block can be had without a merge: a page is left in the open one, or another can be begun
+-- a log block is available without a merge: a page is left in the open one, or another can be begun
 abbrev pub HasLogBlock : Parts → Type 0
 HasLogBlock parts = (1 ≤ parts.log_blocks.room) ⊎ CanBeginLog parts

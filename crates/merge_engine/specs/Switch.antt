@@ -7,7 +7,7 @@ use Rattle.log_blocks.specs.Logs.{LogBlocksValue, IsInUse, released}
 use Rattle.merge_engine.specs.declared.parts.Parts.{Parts}
 use Rattle.merge_engine.specs.Merges.{moved}
 
--- the addresses from this one on stand in order in the first pages of the erase block
+-- the addresses from this one on stand in order in the first `pages` pages of the erase block
 abbrev pub IsInOrderUpTo : Entries → ℕ → ℕ → ℕ → Type 0
 IsInOrderUpTo m first block pages = (page : ℕ) → page < pages → Owns m (record { block = block; page = page }) (first + page)
 
@@ -20,20 +20,21 @@ pub record CanSwitch (parts : Parts) (group block : ℕ) : Type 0 where
   pub in_use : IsInUse parts.log_blocks block
   pub in_order : IsInOrder parts.geometry parts.map.entries group block
 
--- no log block can become the group's data block as it is
+-- no log block can become the group's data block without a copy
 abbrev pub CannotSwitch : Parts → ℕ → Type 0
 CannotSwitch parts group = (block : ℕ) → CanSwitch parts group block → ⊥
 
--- the log block became the group's data block: it is no log block any more, and all that stood in it stands there, marked as it was
+-- the log block became the group's data block. It no longer is a log block, and all blocks of the group stand in it,
+-- with their old marks
 pub record IsSwitched (old new : Parts) (group block : ℕ) : Type 0 where
   pub log_blocks : new.log_blocks ≡ released block old.log_blocks
   pub entries : new.map.entries ≡ moved old.geometry old.map.entries group block
 
--- the log blocks stayed; or the one is out of the list that could become the group's data block
+-- the log blocks stayed, or the log block that could become the group's data block is out of the list
 abbrev pub LogsStayOrSwitch : Parts → ℕ → LogBlocksValue → Type 0
 LogsStayOrSwitch old group logs = (logs ≡ old.log_blocks)
     ⊎ ((block : ℕ) × CanSwitch old group block × (logs ≡ released block old.log_blocks))
 
--- the log blocks stayed, or this one alone is out of the list
+-- the log blocks stayed, or only this one is out of the list
 abbrev pub LogsStayOrLose : ℕ → LogBlocksValue → LogBlocksValue → Type 0
 LogsStayOrLose block old new = (new ≡ old) ⊎ (IsInUse old block × (new ≡ released block old))

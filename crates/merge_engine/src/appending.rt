@@ -19,9 +19,9 @@ use block_pool::Role;
 use ft_base::{Block, Place};
 use ft_media::{Media, MediaError};
 
-/// Programs a block into the next page of the open log block, and says where. Where none has a page
-/// left, one is opened first: a merge comes only where L log blocks are in use and something stands in
-/// each. It takes no memory.
+/// Programs a block into the next page of the open log block, and answers the page's place. If no open log block has a
+/// page left, one is opened first. That takes a merge only if L log blocks are in use and some entry stands in each. It
+/// allocates nothing.
 pub fn append<M: Media>(
     cache: &mut Parts,
     media: &mut M,
@@ -33,10 +33,10 @@ pub fn append<M: Media>(
     ensures room { KeepsRoom cache.old.map cache.new.map cache.old.geometry.p }
     ensures goes { KeepsOrGives cache.old cache.new (M.state media.old).contents (M.state media.new).contents result }
     ensures place { IfOk result (λ at. IsNewPage cache.new (M.state media.new).contents.flash.page at lba block.now) }
-    // Where a log block can be had without a merge.
+    // If a log block is available without a merge.
     ensures no_merge { HasLogBlock cache.old
         → NothingGivesWay cache.old cache.new (M.state media.old).contents (M.state media.new).contents result }
-    // Where the open log block has a page left: one program, no erase, and nothing gives way.
+    // If the open log block has a page left: one program, no erase, and nothing gives way.
     ensures one_program { OnOk result (1 ≤ cache.old.log_blocks.room
         → (cache.new ≡ record cache.old { log_blocks = record cache.old.log_blocks { room = cache.old.log_blocks.room - 1 } })
         × ((M.state media.new).counts ≡ program_counted (M.state media.old).counts)) }
@@ -67,7 +67,7 @@ fn program_next<M: Media>(
     ensures map { cache.new.map ≡ cache.old.map }
     ensures agree { OnOk result (PartsAgree cache.new (M.state media.new).contents) }
     ensures place { IfOk result (λ at. IsNewPage cache.new (M.state media.new).contents.flash.page at lba block.now) }
-    // Whatever is answered, no page that an entry names changed.
+    // Whatever the call answers, no page that an entry names changed.
     ensures lists { (list durable : CacheList) → Lists cache.old (M.state media.old).contents.flash.page list durable
         → Lists cache.old (M.state media.new).contents.flash.page list durable }
     ensures counts { OnOk result ((M.state media.new).counts ≡ program_counted (M.state media.old).counts) }
@@ -77,7 +77,7 @@ fn program_next<M: Media>(
     cache.log_blocks.append(media, lba, block)
 }
 
-/// Opens a log block where none has a page left.
+/// Opens a log block if no open one has a page left.
 fn open_if_closed<M: Media>(cache: &mut Parts, media: &mut M) -> Result<(), MediaError>
     requires can { CanGoOn cache.old (M.state media.old).contents cache.old.geometry.p }
     ensures inside { 1 ≤ cache.old.log_blocks.room → IsOk result × (cache.new ≡ cache.old) × (M.state media.new ≡ M.state media.old) }
@@ -85,7 +85,7 @@ fn open_if_closed<M: Media>(cache: &mut Parts, media: &mut M) -> Result<(), Medi
     ensures room { KeepsRoom cache.old.map cache.new.map cache.old.geometry.p }
     ensures opened { OnOk result (1 ≤ cache.new.log_blocks.room) }
     ensures goes { KeepsOrGives cache.old cache.new (M.state media.old).contents (M.state media.new).contents result }
-    // Where a log block can be had without a merge.
+    // If a log block is available without a merge.
     ensures no_merge { HasLogBlock cache.old
         → NothingGivesWay cache.old cache.new (M.state media.old).contents (M.state media.new).contents result }
     ensures begins { OnOk result (cache.old.log_blocks.room ≡ 0 → BeginsLog cache.old cache.new cache.old.geometry.p) }
@@ -101,7 +101,7 @@ fn open_if_closed<M: Media>(cache: &mut Parts, media: &mut M) -> Result<(), Medi
     commit_and_take(cache, media)
 }
 
-/// Commits what is buffered, and takes an erase block as the open log block.
+/// Commits the buffered changes, and takes an erase block as the open log block.
 fn commit_and_take<M: Media>(cache: &mut Parts, media: &mut M) -> Result<(), MediaError>
     requires agree { PartsAgree cache.old (M.state media.old).contents }
     requires few { length cache.old.log_blocks.used < cache.old.geometry.l }
@@ -114,8 +114,8 @@ fn commit_and_take<M: Media>(cache: &mut Parts, media: &mut M) -> Result<(), Med
     ensures kept { CommitsList cache.old cache.new (M.state media.old).contents (M.state media.new).contents result }
     ensures drives { OnlyDrives (M.state media.old) (M.state media.new) result }
 {
-    // What is buffered is committed before a block is erased: a change that is only buffered may have
-    // made the block free, and the flash's own map still names its pages.
+    // The buffered changes are committed before a block is erased. One of them may have made the block free, while the
+    // flash's own map still names its pages.
     commit(cache, media)?;
     take_log_block(cache, media)
 }
@@ -128,7 +128,7 @@ fn take_log_block<M: Media>(cache: &mut Parts, media: &mut M) -> Result<(), Medi
     ensures cache { OnlyPoolLogBlocksChange cache.old cache.new }
     ensures opened { OnOk result (cache.new.log_blocks.room ≡ cache.old.geometry.p) }
     ensures agree { OnOk result (PartsAgree cache.new (M.state media.new).contents) }
-    // Whatever is answered, no page that an entry names changed.
+    // Whatever the call answers, no page that an entry names changed.
     ensures lists { (list durable : CacheList) → Lists cache.old (M.state media.old).contents.flash.page list durable
         → Lists cache.old (M.state media.new).contents.flash.page list durable }
     ensures takes { OnOk result ((block : ℕ) × TakesLogBlock cache.old cache.new block) }
@@ -156,8 +156,8 @@ fn begin_log_block(cache: &mut Parts, block: u32)
     cache.log_blocks.begin(block);
 }
 
-/// Makes room for one more log block: log blocks that nothing stands in are made free, and where L are
-/// still in use, the first of the list is freed.
+/// Makes room for one more log block. Log blocks without an entry are made free. If L are still in use, the first of
+/// the list is freed.
 fn make_room<M: Media>(cache: &mut Parts, media: &mut M) -> Result<(), MediaError>
     requires can { CanGoOn cache.old (M.state media.old).contents cache.old.geometry.p }
     ensures geometry { cache.new.geometry ≡ cache.old.geometry }
@@ -178,7 +178,7 @@ fn make_room<M: Media>(cache: &mut Parts, media: &mut M) -> Result<(), MediaErro
     free_log_block(cache, media)
 }
 
-/// Takes log blocks that nothing stands in out of use: one at least, where there is one.
+/// Takes log blocks without an entry out of use: at least one, if there is any.
 fn free_unheld(cache: &mut Parts)
     requires of_one { AreOfOne cache.old }
     requires in_pool { (b : ℕ) → IsInUse cache.old.log_blocks b → IsInPool cache.old.geometry b }

@@ -11,8 +11,8 @@ ghost use Rattle.merge_engine.specs.Kept.{CommitsList};
 use crate::Parts;
 use ft_media::{Media, MediaError};
 
-/// Puts all that is buffered on the flash: with one log page, or with a checkpoint where the log has no
-/// page left. Where nothing is buffered it does nothing. It takes no memory.
+/// Puts all buffered changes on the flash: with one log page, or with a checkpoint if the log has no page left. If
+/// nothing is buffered, it does nothing. It allocates nothing.
 pub fn commit<M: Media>(cache: &mut Parts, media: &mut M) -> Result<(), MediaError>
     requires agree { PartsAgree cache.old (M.state media.old).contents }
     ensures cache { cache.new ≡ record cache.old { log = cache.new.log } }
@@ -33,8 +33,8 @@ pub fn commit<M: Media>(cache: &mut Parts, media: &mut M) -> Result<(), MediaErr
     cache.checkpoints.commit(media, &cache.map, &mut cache.log)
 }
 
-/// Makes a checkpoint of the whole map, with all that is buffered. The log need not have been open. It
-/// takes no memory.
+/// Makes a checkpoint of the whole map, with all buffered changes. The log need not have been open. It allocates
+/// nothing.
 pub fn make_checkpoint<M: Media>(cache: &mut Parts, media: &mut M) -> Result<(), MediaError>
     requires sound { ArePartsSound cache.old (M.state media.old).contents }
     ensures cache { cache.new ≡ record cache.old { log = cache.new.log } }

@@ -34,7 +34,7 @@ pub(crate) fn copy_group<M: Media>(
     requires free { IsFree cache.now.pool block }
     requires erased { (M.state media.old).contents.flash.next block ≡ Some 0 }
     ensures agree { OnOk result (PartsAgree cache.now (M.state media.new).contents) }
-    // Whatever is answered, and wherever power went off: no page that an entry names changed.
+    // Whatever the call answers, and whenever power goes off, no page that an entry names changed.
     ensures lists { (list durable : CacheList) → Lists cache.now (M.state media.old).contents.flash.page list durable
         → Lists cache.now (M.state media.new).contents.flash.page list durable }
     ensures copied { OnOk result (IsCopied cache.now.geometry cache.now.map.entries group block (M.state media.new).contents.flash.page) }
@@ -60,8 +60,8 @@ pub(crate) fn copy_group<M: Media>(
     Ok(())
 }
 
-/// Programs one page of a data block: what stands at the address's page, with its spare bytes, or a filler
-/// of the zero block where the address isn't held.
+/// Programs one page of a data block: a copy of the address's page, with its spare bytes, or a filler of the zero block
+/// if the address isn't held.
 fn copy_page<M: Media>(
     cache: &Parts,
     media: &mut M,
@@ -94,7 +94,7 @@ fn copy_page<M: Media>(
     program_unheld(cache, media, to, buffer, &spare)
 }
 
-/// Programs the next page of a free erase block. No entry names it, so that nothing else changes.
+/// Programs the next page of a free erase block. No entry names it, so nothing else changes.
 fn program_unheld<M: Media>(
     cache: &Parts,
     media: &mut M,

@@ -17,16 +17,15 @@ use block_pool::Role;
 use ft_base::Place;
 use ft_media::{Media, MediaError};
 
-/// Frees the first log block of the list: the groups with a page in it are merged. It is no log block
-/// then, but free or a data block. Where nothing stands in it no call of the media is made. It takes no
-/// memory.
+/// Frees the first log block of the list by merging the groups with a page in it. After that it is no log block, but
+/// free or a data block. If no entry stands in it, no call of the media is made. It allocates nothing.
 pub fn free_log_block<M: Media>(cache: &mut Parts, media: &mut M) -> Result<(), MediaError>
     requires can { CanGoOn cache.old (M.state media.old).contents cache.old.geometry.p }
     requires used { 1 ≤ length cache.old.log_blocks.used }
     ensures geometry { cache.new.geometry ≡ cache.old.geometry }
     ensures log_blocks { OnOk result ((oldest : ℕ) → slice_get cache.old.log_blocks.used 0 ≡ Some oldest
         → cache.new.log_blocks ≡ released oldest cache.old.log_blocks) }
-    // Whatever is answered, there is no log block that wasn't one.
+    // Whatever the call answers, no block has become a log block.
     ensures used { (b : ℕ) → IsInUse cache.new.log_blocks b → IsInUse cache.old.log_blocks b }
     ensures unheld { (oldest : ℕ) → slice_get cache.old.log_blocks.used 0 ≡ Some oldest → StandsNoneIn cache.old.map.entries oldest
         → IsOk result × OnlyPoolLogBlocksChange cache.old cache.new
@@ -44,7 +43,7 @@ pub fn free_log_block<M: Media>(cache: &mut Parts, media: &mut M) -> Result<(), 
     Ok(())
 }
 
-/// Merges each group with a page in a log block, in the order of the pages, as long as it is a log block.
+/// Merges each group with a page in a log block, in the order of the pages, while the block is a log block.
 fn merge_owners<M: Media>(cache: &mut Parts, media: &mut M, block: u32) -> Result<(), MediaError>
     requires can { CanGoOn cache.old (M.state media.old).contents cache.old.geometry.p }
     requires in_use { IsInUse cache.old.log_blocks block }
@@ -64,8 +63,8 @@ fn merge_owners<M: Media>(cache: &mut Parts, media: &mut M, block: u32) -> Resul
     Ok(())
 }
 
-/// Merges the group whose address stands at a page of a log block, where one does. Where the block is a
-/// data block since a merge, it stays.
+/// Merges the group whose address stands at a page of a log block, if there is one. If a merge has made the block a
+/// data block, it stays one.
 fn merge_owner<M: Media>(cache: &mut Parts, media: &mut M, at: Place) -> Result<(), MediaError>
     requires can { CanGoOn cache.old (M.state media.old).contents 1 }
     requires in_pool { IsInPool cache.old.geometry at.block }
@@ -88,7 +87,7 @@ fn merge_owner<M: Media>(cache: &mut Parts, media: &mut M, at: Place) -> Result<
     }
 }
 
-/// Takes a log block that nothing stands in out of use, where it is still one.
+/// Takes a log block without an entry out of use, if it still is a log block.
 fn give_back_used(cache: &mut Parts, block: u32)
     requires of_one { AreOfOne cache.old }
     requires in_pool { IsInPool cache.old.geometry block }
@@ -105,7 +104,7 @@ fn give_back_used(cache: &mut Parts, block: u32)
     }
 }
 
-/// Takes a log block that nothing stands in out of use: it is free.
+/// Takes a log block without an entry out of use: it is then free.
 pub(crate) fn give_back(cache: &mut Parts, block: u32)
     requires of_one { AreOfOne cache.old }
     requires in_pool { IsInPool cache.old.geometry block }

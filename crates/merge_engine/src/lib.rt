@@ -1,16 +1,15 @@
-//! Merges: the data blocks and log blocks of a cache, and the steps that move between them.
+//! Merges: the data blocks and log blocks of a cache, and the steps that move blocks between them.
 //!
-//! `Parts` are the parts that the steps share, among them the map, the operation log, the pool and the
-//! log blocks. A block is appended to the open log block; where all log blocks are in use, and something stands in
-//! each, the oldest is freed, which merges each group with a page in it into a data block of its own, or
-//! makes the log block itself the data block where it holds a group in order; where all data blocks are in
-//! use a clean group gives way.
+//! `Parts` are the parts that the steps share, among them the map, the operation log, the pool and the log blocks. A
+//! block is appended to the open log block. If all log blocks are in use, and some entry stands in each, the oldest is
+//! freed. That merges each group with a page in it into a data block of its own. If the log block holds a group in
+//! order, it becomes the data block itself. If all data blocks are in use, a clean group gives way.
 //!
-//! The layer above relies on this: between two steps the parts agree with the flash. A step that
-//! answers Ok leaves the list of held blocks as it was, or without some wholly clean groups that gave
-//! room. At every moment of a step, whatever it answers, the flash stands for the list without what was
-//! buffered, or for the list, which may have given room: no page that the flash's own map names is
-//! programmed again, and no erase block with such a page is erased.
+//! The layer above relies on this: between two steps the parts agree with the flash. A step that answers `Ok` leaves
+//! the list of held blocks unchanged, or without some wholly clean groups that gave room. At every moment of a step,
+//! whatever it answers, the flash stands for one of two lists. These are the list without the buffered changes, and the
+//! list, which may have given room. No page that the flash's own map names is programmed again, and no erase block with
+//! such a page is erased.
 #![tactic(auto)]
 
 mod appending;

@@ -16,9 +16,8 @@ use op_log::OpLog;
 use silent_evict::Victims;
 use std::alloc::{AllocError, Global};
 
-/// The parts over a map that was loaded, with the log of this region and era, at its first page and with
-/// nothing buffered. The log blocks are in the order of their numbers, and none is open. It is refused
-/// for want of memory alone.
+/// The parts over a map that was loaded, with the log of this region and era, at its first page and with nothing
+/// buffered. The log blocks are in the order of their numbers, and none is open. It fails only with out of memory.
 pub fn loaded(
     alloc: Global,
     geometry: &Geometry,
@@ -49,7 +48,7 @@ pub fn loaded(
     Ok(parts)
 }
 
-/// The parts over a map, of which no block is used yet.
+/// The parts over a map, before any block has a role.
 fn unused(
     alloc: Global,
     geometry: &Geometry,
@@ -90,7 +89,7 @@ fn unused(
     })
 }
 
-/// Uses each block as its entries say. All were free.
+/// Gives each block the role that its entries say. All blocks were free.
 fn set_roles(parts: &mut Parts)
     requires of_one { AreOfOne parts.old }
     requires map { IsMap parts.old.geometry parts.old.map.entries }
@@ -104,7 +103,7 @@ fn set_roles(parts: &mut Parts)
     }
 }
 
-/// Uses the block of entry number `i` as it says, where there is one.
+/// Gives the block of entry number `i` the role that the entry says, if there is such an entry.
 fn set_role_at(parts: &mut Parts, i: u32)
     requires of_one { AreOfOne parts.old }
     requires map { IsMap parts.old.geometry parts.old.map.entries }
@@ -120,7 +119,7 @@ fn set_role_at(parts: &mut Parts, i: u32)
     parts.pool.set_role(at.block, role);
 }
 
-/// What a block is used for in which an address stands.
+/// The role of a block in which an address stands.
 fn role_at(parts: &Parts, lba: u64, block: u32) -> Role
     requires of_one { AreOfOne parts.now }
     requires map { IsMap parts.now.geometry parts.now.map.entries }

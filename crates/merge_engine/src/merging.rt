@@ -25,16 +25,15 @@ use block_pool::Role;
 use ft_base::Record;
 use ft_media::{Media, MediaError};
 
-/// Moves all that is held of a group into a data block of its own: it is copied, or, where the pages of a
-/// log block hold the group's addresses in order, that block becomes its data block as it is. Where it has
-/// none and C groups have one, a group with a data block and nothing dirty gives way first; where there is
-/// no such group, the group itself, which is clean then, is dropped. What was buffered is committed with it.
-/// It takes no memory.
+/// Moves all held blocks of a group into a data block of its own. They are copied; or, if the pages of a log block hold
+/// the group's addresses in order, that block becomes the data block without a copy. If the group has no data block and
+/// C groups have one, a group with a data block and no dirty address gives way first. If there is no such group, the
+/// group itself, which is then clean, is dropped. The buffered changes are committed with it. It allocates nothing.
 pub fn merge_group<M: Media>(cache: &mut Parts, media: &mut M, group: u64) -> Result<(), MediaError>
     requires can { CanGoOn cache.old (M.state media.old).contents 1 }
     requires held { IsGroupHeld cache.old.geometry cache.old.map.entries group }
     ensures geometry { cache.new.geometry ≡ cache.old.geometry }
-    // Whatever is answered.
+    // Whatever the call answers.
     ensures log_blocks { LogsStayOrSwitch cache.old group cache.new.log_blocks }
     ensures room { KeepsRoom cache.old.map cache.new.map 1 }
     ensures merges { MergesList cache.old cache.new group (M.state media.old).contents (M.state media.new).contents result }
@@ -57,7 +56,7 @@ pub fn merge_group<M: Media>(cache: &mut Parts, media: &mut M, group: u64) -> Re
     }
 }
 
-/// Drops a group, and commits that.
+/// Drops a group, and commits this.
 fn drop_group<M: Media>(cache: &mut Parts, media: &mut M, group: u64) -> Result<(), MediaError>
     requires can { CanGoOn cache.old (M.state media.old).contents 0 }
     requires held { IsGroupHeld cache.old.geometry cache.old.map.entries group }
@@ -71,7 +70,7 @@ fn drop_group<M: Media>(cache: &mut Parts, media: &mut M, group: u64) -> Result<
     ensures lists { OnOk result ((list durable : CacheList) → Lists cache.old (M.state media.old).contents.flash.page list durable
         → Lists cache.new (M.state media.new).contents.flash.page (list_without cache.old.geometry group list)
         (list_without cache.old.geometry group list)) }
-    // Whatever is answered, and wherever power went off.
+    // Whatever the call answers, and whenever power goes off.
     ensures stands { (list durable : CacheList) → Lists cache.old (M.state media.old).contents.flash.page list durable
         → FlashStandsForEither cache.old.geometry (M.state media.new).contents.flash.page durable
         (list_without cache.old.geometry group list) }
@@ -81,8 +80,8 @@ fn drop_group<M: Media>(cache: &mut Parts, media: &mut M, group: u64) -> Result<
     commit(cache, media)
 }
 
-/// Moves a group into a data block of its own, and commits that: a log block that holds the group in order
-/// becomes its data block as it is; where there is none, the group is copied.
+/// Moves a group into a data block of its own, and commits this. A log block that holds the group in order becomes its
+/// data block without a copy. If there is none, the group is copied.
 fn move_group<M: Media>(cache: &mut Parts, media: &mut M, group: u64) -> Result<(), MediaError>
     requires can { CanGoOn cache.old (M.state media.old).contents 1 }
     requires held { IsGroupHeld cache.old.geometry cache.old.map.entries group }
@@ -108,7 +107,7 @@ fn move_group<M: Media>(cache: &mut Parts, media: &mut M, group: u64) -> Result<
     }
 }
 
-/// Copies a group into an erase block that is taken, makes that its data block, and commits that.
+/// Copies a group into an erase block that is taken, makes this its data block, and commits this.
 fn gather_group<M: Media>(cache: &mut Parts, media: &mut M, group: u64) -> Result<(), MediaError>
     requires agree { PartsAgree cache.old (M.state media.old).contents }
     requires held { IsGroupHeld cache.old.geometry cache.old.map.entries group }
@@ -123,21 +122,21 @@ fn gather_group<M: Media>(cache: &mut Parts, media: &mut M, group: u64) -> Resul
     ensures costs { OnOk result (CostsOfCopy cache.old group (M.state media.old).counts (M.state media.new).counts) }
     ensures drives { OnlyDrives (M.state media.old) (M.state media.new) result }
 {
-    // What is buffered is committed before a block is erased: a change that is only buffered may have
-    // made the block free, and the flash's own map still names its pages.
+    // The buffered changes are committed before a block is erased. One of them may have made the block free, while the
+    // flash's own map still names its pages.
     commit(cache, media)?;
     let block = copy_out(cache, media, group)?;
     put_group(cache, group, block);
     commit(cache, media)
 }
 
-/// Copies a group into an erase block that is taken, and says which. Nothing stands in it yet.
+/// Copies a group into an erase block that is taken, and answers its number. No entry stands in it yet.
 fn copy_out<M: Media>(cache: &mut Parts, media: &mut M, group: u64) -> Result<u32, MediaError>
     requires agree { PartsAgree cache.old (M.state media.old).contents }
     requires nothing { cache.old.log.buffered ≡ [] }
     ensures cache { cache.new ≡ record cache.old { pool = cache.new.pool } }
     ensures agree { OnOk result (PartsAgree cache.new (M.state media.new).contents) }
-    // Whatever is answered, and wherever power went off: no page that an entry names changed.
+    // Whatever the call answers, and whenever power goes off, no page that an entry names changed.
     ensures lists { (list durable : CacheList) → Lists cache.old (M.state media.old).contents.flash.page list durable
         → Lists cache.new (M.state media.new).contents.flash.page list durable }
     ensures free { IfOk result (IsFree cache.new.pool) }
@@ -155,7 +154,7 @@ fn copy_out<M: Media>(cache: &mut Parts, media: &mut M, group: u64) -> Result<u3
     Ok(block)
 }
 
-/// Puts all that is held of a group into an erase block, which is its data block from then on.
+/// Puts all held blocks of a group into an erase block, which is its data block from then on.
 fn put_group(cache: &mut Parts, group: u64, block: u32)
     requires of_one { AreOfOne cache.old }
     requires is_map { IsMap cache.old.geometry cache.old.map.entries }

@@ -21,7 +21,7 @@ use crate::Parts;
 use block_pool::Role;
 use ft_base::{Place, Record};
 
-/// Puts an address at a page of a log block. A data block that it leaves empty is free.
+/// Puts an address at a page of a log block. A data block that this leaves empty becomes free.
 pub fn put_page(cache: &mut Parts, lba: u64, place: Place, dirty: bool)
     requires of_one { AreOfOne cache.old }
     requires is_map { IsMap cache.old.geometry cache.old.map.entries }
@@ -42,7 +42,7 @@ pub fn put_page(cache: &mut Parts, lba: u64, place: Place, dirty: bool)
     note(cache, &change, lba / cache.geometry.p as u64);
 }
 
-/// Takes an address out. A data block that it leaves empty is free.
+/// Takes an address out. A data block that this leaves empty becomes free.
 pub fn put_out(cache: &mut Parts, lba: u64)
     requires of_one { AreOfOne cache.old }
     requires is_map { IsMap cache.old.geometry cache.old.map.entries }
@@ -83,8 +83,8 @@ pub fn note_clean(cache: &mut Parts, lba: u64)
     cache.map.apply(&change);
 }
 
-/// Buffers a change and makes it in the map. Where the group's data block is no longer the one that it
-/// had, that one is free.
+/// Buffers a change and makes it in the map. If the group's data block no longer is the old one, the old one becomes
+/// free.
 pub(crate) fn note(cache: &mut Parts, change: &Record, group: u64)
     requires of_one { AreOfOne cache.old }
     requires is_map { IsMap cache.old.geometry cache.old.map.entries }

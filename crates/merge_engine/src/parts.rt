@@ -11,13 +11,13 @@ use silent_evict::Victims;
 pub struct Parts {
     /// The numbers that all parts share.
     pub geometry: Geometry,
-    /// Where the block of each held address stands.
+    /// The place of the block of each held address.
     pub map: Map,
-    /// The changes of the map that are buffered, and where the next ones go.
+    /// The buffered changes of the map, and the page to which the next ones go.
     pub log: OpLog,
-    /// What each erase block of the pool is used for.
+    /// The role of each erase block of the pool.
     pub pool: Pool,
-    /// Which clean group gives way.
+    /// The choice of the clean group that gives way.
     pub victims: Victims,
     /// The log blocks, and the open one.
     pub log_blocks: LogBlocks,

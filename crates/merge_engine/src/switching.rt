@@ -20,7 +20,7 @@ use block_pool::Role;
 use ft_base::{Place, Record};
 use ft_media::{Media, MediaError};
 
-/// The log block whose pages hold the addresses of a group in order. None where there is none.
+/// The log block whose pages hold the addresses of a group in order. `None` if there is none.
 pub(crate) fn log_block_in_order(cache: &Parts, group: u64) -> Option<u32>
     requires of_one { AreOfOne cache.now }
     requires is_map { IsMap cache.now.geometry cache.now.map.entries }
@@ -66,7 +66,7 @@ fn stands_at(cache: &Parts, lba: u64, at: Place) -> bool
     }
 }
 
-/// Makes the log block that holds a group in order its data block, and commits that: no page is copied.
+/// Makes the log block that holds a group in order its data block, and commits this. No page is copied.
 pub(crate) fn switch_group<M: Media>(
     cache: &mut Parts,
     media: &mut M,
@@ -94,7 +94,7 @@ pub(crate) fn switch_group<M: Media>(
     commit(cache, media)
 }
 
-/// Makes the log block that holds a group in order its data block. It is no log block any more.
+/// Makes the log block that holds a group in order its data block. It is then no log block any longer.
 fn switch_block(cache: &mut Parts, group: u64, block: u32)
     requires of_one { AreOfOne cache.old }
     requires is_map { IsMap cache.old.geometry cache.old.map.entries }

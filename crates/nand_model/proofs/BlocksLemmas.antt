@@ -32,7 +32,7 @@ paged_there [] b n has = absurd (omega arith)
 paged_there (x ∷ blocks) zero n has = omega arith
 paged_there (x ∷ blocks) (suc b) n has = omega (arith, paged_there blocks b n has)
 
--- the block that a borrow of it shows
+-- the block at a number is the block that a borrow of it shows
 pub block_there : (blocks : List EraseBlock) (b : ℕ) (x : EraseBlock) → b < length blocks → x ≡ get_or blocks b x → slice_get blocks b ≡ Some x
 block_there [] b x within is = absurd (omega arith)
 block_there (y ∷ blocks) zero x within is = ap Some (sym is)
@@ -86,5 +86,5 @@ changed_page blocks at e new value within is changed q =
     by_tests true false v same = cc
     by_tests false true v same = cc
 
--- for what reads or changes one block
+-- for calls that read or change one block
 pub ruleset one_changed = (get_put, block_there, paged_there, ready_there)

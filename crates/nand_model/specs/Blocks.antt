@@ -9,7 +9,7 @@ use Rattle.ft_base.specs.Contents.{zero_block}
 use Rattle.nand_model.specs.declared.erase_block.EraseBlock.{EraseBlock}
 use Rattle.nand_model.specs.Pages.{block_page, page_found, no_spare}
 
--- page p of a block that may be there
+-- page p of an optional block
 abbrev pub page_of_block : Option EraseBlock → ℕ → Page
 page_of_block None p = page.Blank
 page_of_block (Some block) p = block_page block p
@@ -21,7 +21,7 @@ abbrev pub next_of_block : Option EraseBlock → Option ℕ
 next_of_block None = None
 next_of_block (Some block) = block.next
 
--- the page of a block to program next, where it is ready
+-- the page of a block to program next, if the block is ready
 abbrev pub next_at : List EraseBlock → ℕ → Option ℕ
 next_at blocks block = next_of_block (slice_get blocks block)
 
@@ -29,7 +29,7 @@ abbrev pub size_of_block : Option EraseBlock → ℕ
 size_of_block None = 0
 size_of_block (Some block) = block.pages
 
--- how many pages a block has, and 0 where it is not there
+-- how many pages a block has, and 0 if there is no such block
 abbrev pub pages_at : List EraseBlock → ℕ → ℕ
 pages_at blocks block = size_of_block (slice_get blocks block)
 
@@ -41,7 +41,7 @@ abbrev pub spare_room_of : Option EraseBlock → ℕ
 spare_room_of None = 0
 spare_room_of (Some block) = vec_capacity block.spares
 
--- for how many pages there is memory in a block, and for how many spare areas
+-- for how many pages a block has memory, and for how many spare areas
 abbrev pub block_room_at : List EraseBlock → ℕ → ℕ
 block_room_at blocks block = block_room_of (slice_get blocks block)
 

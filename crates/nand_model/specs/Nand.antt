@@ -21,12 +21,12 @@ nand_pages nand = nand.pages
 abbrev pub flash_of : MemNand → Flash
 flash_of nand = record { page = page_at nand.blocks.items; next = next_at nand.blocks.items }
 
--- each of the first so many blocks has memory for just so many pages and spare areas
+-- each of the first `blocks` blocks has memory for exactly `pages` pages and spare areas
 pub record HasRoom (nand : MemNand) (blocks pages : ℕ) : Type 0 where
   pub of_blocks : (b : ℕ) → b < blocks → block_room_at nand.blocks.items b ≡ pages
   pub of_spares : (b : ℕ) → b < blocks → spare_room_at nand.blocks.items b ≡ pages
 
--- its calls, and those that failed
+-- its calls, and how many of them failed
 abbrev pub calls_of : MemNand → Calls
 calls_of nand = nand.calls
 
@@ -48,7 +48,7 @@ pub blank_ahead : (nand : MemNand) (at : Place) (next : ℕ) → (flash_of nand)
     → (flash_of nand).page at ≡ page.Blank
 blank_ahead nand at next = ahead_at nand.blocks.items at next
 
--- what is ready is an erase block of the flash
+-- each block that is ready is an erase block of the flash
 pub ready_inside : (nand : MemNand) (b : ℕ) → nand_blocks nand ≤ b → (flash_of nand).next b ≡ None
 ready_inside nand b outside = ap next_of_block (slice_get_past nand.blocks.items b outside)
 

@@ -13,7 +13,7 @@ use Rattle.nand_model.specs.declared.erase_block.EraseBlock.{EraseBlock}
 unfoldable pub no_spare : Spare
 no_spare = record { 0 = replicate 32 0 }
 
--- a page that a read finds so, with these bytes where it is whole
+-- the page that a read finds as this, with these bytes if it is whole
 abbrev pub page_found : PageRead → Block → Spare → Page
 page_found read.Blank block spare = page.Blank
 page_found read.Whole block spare = page.Whole block spare

@@ -1,4 +1,4 @@
--- What each device write makes of a flash: done, failed or cut.
+-- What each device write does to a flash when it is done, failed or cut.
 use Rattle.std.specs.Prelude.{◌==◌, ℕ, zero, suc, ◌%◌, None, if◌then◌else◌}
 use Rattle.ft_base.specs.declared.block.Block.{Block}
 use Rattle.ft_base.specs.declared.block.Spare.{Spare}
@@ -25,7 +25,7 @@ torn page.Blank = page.Blank
 torn (page.Whole block spare) = page.Torn
 torn page.Torn = page.Torn
 
--- of three pages in a row the first stays as it is, the second is blank, and the third is torn unless it was blank
+-- of three pages in a row the first is unchanged, the second is blank, and the third is torn unless it was blank
 abbrev pub in_thirds : ℕ → Page → Page
 in_thirds zero before = before
 in_thirds (suc zero) before = page.Blank
@@ -42,7 +42,7 @@ cut_erase outcome.Mixed i before = in_thirds (i % 3) before
 abbrev pub unready : Flash → Flash
 unready flash = record { page = flash.page; next = none_ready }
 
--- the flash after a program: one that failed leaves its page torn and its block not ready
+-- the flash after a program; a program that failed leaves its page torn and its block not ready
 abbrev pub program_left : Ending → Flash → Place → Block → Spare → Flash
 program_left ending.Done flash at block spare = after_program flash at block spare
 program_left ending.Failed flash at block spare = record { page = set_page flash.page at page.Torn; next = set flash.next at.block None }
@@ -52,7 +52,7 @@ program_left (ending.Cut outcome) flash at block spare = record {
 }
 program_left ending.Off flash at block spare = flash
 
--- the flash after an erase: one that failed leaves its block blank and not ready
+-- the flash after an erase; an erase that failed leaves its block blank and not ready
 abbrev pub erase_left : Ending → Flash → ℕ → Flash
 erase_left ending.Done flash block = after_erase flash block
 erase_left ending.Failed flash block = record { page = (after_erase flash block).page; next = set flash.next block None }

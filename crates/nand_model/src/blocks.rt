@@ -28,7 +28,7 @@ pub(crate) fn fresh(alloc: Global, blocks: u32, pages: u32) -> Result<Vec<EraseB
     Ok(made)
 }
 
-/// Says what a page is, and fills the buffers where it is whole.
+/// Says what a page is, and fills the buffers if it is whole.
 #[tactic(auto, using(crate::proofs::BlocksLemmas::one_changed))]
 pub(crate) fn read(
     blocks: &Vec<EraseBlock>,
@@ -57,7 +57,7 @@ pub(crate) fn program(blocks: &mut Vec<EraseBlock>, at: Place, block: &Block, sp
     blocks[at.block as usize].program(at.page, block, spare);
 }
 
-/// A program of that page failed: it is torn, and its block not ready.
+/// Tears the page after a failed program, and makes its block not ready.
 #[tactic(auto, using(crate::proofs::BlocksLemmas::one_changed))]
 pub(crate) fn tear(blocks: &mut Vec<EraseBlock>, at: Place)
     requires { at.page < pages_at blocks.old.items at.block }

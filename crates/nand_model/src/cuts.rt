@@ -18,7 +18,7 @@ pub(crate) fn blank_all(found: &mut Vec<PageRead>)
     }
 }
 
-/// Makes of each page what a cut erase leaves of it.
+/// Changes each page to what a cut erase leaves of it.
 pub(crate) fn cut_all(found: &mut Vec<PageRead>, outcome: Outcome)
     ensures cut { (p : ℕ) (block : Block) (spare : Spare) → page_found (slice_index_or found.new.items p read.Blank) block spare
         ≡ cut_erase outcome p (page_found (slice_index_or found.old.items p read.Blank) block spare) }

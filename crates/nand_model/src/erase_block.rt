@@ -8,8 +8,8 @@ use ft_base::{Block, Outcome, Spare};
 use ft_media::PageRead;
 use std::alloc::{AllocError, Global};
 
-/// The pages of an erase block. Pages are programmed in order, so what was last programmed into a page
-/// stands at its number in `blocks` and `spares`, which have room for all pages from the start.
+/// The pages of an erase block. Pages are programmed in order. So the bytes last programmed into a page stand at its
+/// number in `blocks` and `spares`, which have room for all pages from the start.
 #[derive(Drop)]
 pub(crate) struct EraseBlock {
     pub(crate) pages: u32,
@@ -55,7 +55,7 @@ impl EraseBlock {
         })
     }
 
-    /// Says what a page is, and fills the buffers where it is whole.
+    /// Says what a page is, and fills the buffers if it is whole.
     pub(crate) fn read(&self, page: u32, block: &mut Block, spare: &mut Spare) -> PageRead
         requires { page < self.now.pages }
         ensures found { Found (block_page self.now page) result block.new spare.new }
@@ -101,7 +101,7 @@ impl EraseBlock {
         self.found[at] = PageRead::Whole;
     }
 
-    /// A program of the next page failed: the page is torn, and the block not ready.
+    /// Tears the next page after a failed program, and makes the block not ready.
     pub(crate) fn tear(&mut self, page: u32)
         requires { page < self.old.pages }
         ensures page { (p : ℕ) → block_page self.new p

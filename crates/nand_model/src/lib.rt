@@ -1,8 +1,8 @@
 //! The flash half of a rig in memory: pages, which erase blocks are ready, counts, and calls that fail.
 //!
-//! The layer above relies on `Steps`, which says what each device write makes of the flash, done, failed or
-//! cut: each call of `MemNand` is that step. It says which current a device write has; the flash knows of
-//! no stop. `page_of_cut_program` and `page_of_cut_erase` compute what a cut leaves of one page.
+//! The layer above relies on `Steps`, which says what each device write does to the flash when it is done, failed or
+//! cut. Each call of `MemNand` is such a step. The layer above says which current a device write has; the flash knows
+//! of no stop. `page_of_cut_program` and `page_of_cut_erase` compute what a cut leaves of one page.
 #![tactic(auto)]
 
 mod blocks;

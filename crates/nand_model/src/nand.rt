@@ -33,7 +33,7 @@ impl MemNand {
     ghost use Rattle.nand_model.specs.Nand.{nand_blocks, nand_pages, flash_of, calls_of, programs_done, erases_done, HasRoom, SameNumbers};
     ghost use Rattle.nand_model.specs.Steps.{program_left, erase_left, unready};
 
-    /// A flash without a block. The calls with these numbers will fail, from 1.
+    /// A flash without a block. The calls with these numbers, counted from 1, will fail.
     pub fn new(alloc: Global, failing: Vec<u64>) -> MemNand
         ensures flash { flash_of result ≡ (new_contents 0 0 0).flash }
         ensures blocks { nand_blocks result ≡ 0 }
@@ -53,8 +53,8 @@ impl MemNand {
         }
     }
 
-    /// Makes the flash anew, with each page blank and each block ready. Counts stay. The memory of all pages
-    /// is taken here, once. Refused, all is as before. No other call takes memory.
+    /// Makes the flash anew, with each page blank and each block ready. Counts stay. It allocates the memory of all
+    /// pages, once; no other call allocates anything. On `Err` nothing has changed.
     pub fn fit(&mut self, alloc: Global, blocks: u32, pages: u32) -> Result<(), AllocError>
         ensures flash { OnOk result (flash_of self.new ≡ (new_contents blocks pages 0).flash) }
         ensures blocks { OnOk result (nand_blocks self.new ≡ blocks) }
@@ -83,7 +83,7 @@ impl MemNand {
         self.pages
     }
 
-    /// The page of a block to program next, where the block is ready. It may be one past the last.
+    /// The page of a block to program next, if the block is ready. It may be one past the last.
     #[tactic(auto, using(crate::proofs::BlocksLemmas::block_there))]
     pub fn next_page(&self, block: u32) -> Option<u32>
         requires { block < nand_blocks self.now }
@@ -92,7 +92,7 @@ impl MemNand {
         self.blocks[block as usize].next
     }
 
-    /// Says what a page is, with power on, and fills the buffers where it is whole.
+    /// Says what a page is, with power on, and fills the buffers if it is whole.
     pub fn read(
         &mut self,
         at: Place,
@@ -143,7 +143,7 @@ impl MemNand {
         ending
     }
 
-    /// Erases a block, which is ready once that is done.
+    /// Erases a block, which is ready after that.
     pub fn erase(&mut self, block: u32, current: Current) -> Ending
         requires { block < nand_blocks self.old }
         ensures ending { result ≡ ending_of current (is_listed (calls_of self.old)) }

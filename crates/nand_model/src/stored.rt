@@ -4,8 +4,8 @@ ghost use Rattle.std.specs.Vec.{vec_capacity};
 
 use std::slice::from_ref;
 
-/// Puts a copy of `item` at a place of `items`, or right behind them where room is reserved. It is copied
-/// once, from where it lies: a value that is pushed is copied to the stack before.
+/// Puts a copy of `item` at a place of `items`, or right behind them, if there is room for it. It is copied once, from
+/// its own place: a value that is pushed would be copied to the stack first.
 pub(crate) fn put_copy<T: Copy>(items: &mut Vec<T>, at: usize, item: &T)
     requires fits { FitsInMemory T.row }
     requires near { at ≤ vec_len items.old }
@@ -18,7 +18,7 @@ pub(crate) fn put_copy<T: Copy>(items: &mut Vec<T>, at: usize, item: &T)
     if at < items.len() {
         items[at] = *item;
     } else {
-        // Room is reserved, so it can't be refused.
+        // Room is reserved, so this can't fail.
         let _ = items.extend_from_slice(from_ref(item));
     }
 }

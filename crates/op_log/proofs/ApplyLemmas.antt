@@ -36,7 +36,7 @@ pub record AppliedSoFar (changes : List Record) (i : ℕ) (first now : MapValue)
   pub geometry : now.geometry ≡ first.geometry
   pub entries : after_all first.geometry changes first.entries ≡ after_all first.geometry (drop i changes) now.entries
 
--- and there is room for the others
+-- there is room for the other records
 pub record AppliedWithRoom (changes : List Record) (i : ℕ) (first now : MapValue) : Type 0 where
   pub applied : AppliedSoFar changes i first now
   pub pages : pages_needed (drop i changes) ≤ now.spare_pages
@@ -45,7 +45,7 @@ pub record AppliedWithRoom (changes : List Record) (i : ℕ) (first now : MapVal
   pub groups_gone : now.spare_groups + groups_needed changes ≡ first.spare_groups + groups_needed (drop i changes)
   pub buckets : KeepsBuckets first now
 
--- the record that is next fits
+-- the next record fits
 fits_here : (changes : List Record) (i : ℕ) (r : Record) (first now : MapValue) → AppliedSoFar changes i first now → Fits now.geometry r now.entries → fits first.geometry r now.entries ≡ true
 fits_here changes i r first now so fit = fits-from first.geometry r now.entries (subst (λ (g : Geometry). Fits g r now.entries) so.geometry fit)
 
@@ -56,7 +56,7 @@ module _ (changes : List Record) (i : ℕ) (d : Record) (within : i < length cha
   groups_left : groups_needed (drop i changes) ≡ groups_taken (get_or changes i d) + groups_needed (drop (i + 1) changes)
   groups_left = sum_by-drop_more (λ r. cond (groups_taken r == 1) 1 0) changes i d within ∙ ap (λ n. n + groups_needed (drop (i + 1) changes)) (group_taken (get_or changes i d))
 
-  -- what is left to apply, with the next record in front
+  -- the records still to apply, with the next record in front
   next_first : (first now : MapValue) → AppliedSoFar changes i first now → after_all first.geometry changes first.entries ≡ cond (fits first.geometry (get_or changes i d) now.entries) (after_all first.geometry (drop (i + 1) changes) (after first.geometry (get_or changes i d) now.entries)) None
   next_first first now so = so.entries ∙ at_drop_more (λ rs. after_all first.geometry rs now.entries) changes i d within
 
@@ -67,7 +67,7 @@ module _ (changes : List Record) (i : ℕ) (d : Record) (within : i < length cha
       by_test true t = absurd (unfit (subst (λ (g : Geometry). Fits g (get_or changes i d) now.entries) (sym so.geometry) (fits-true first.geometry (get_or changes i d) now.entries t)))
       by_test false t = next_first first now so ∙ ap (λ b. cond b (after_all first.geometry (drop (i + 1) changes) (after first.geometry (get_or changes i d) now.entries)) None) t
 
-  -- a map that is ready for the record is as it was, and next is what it became
+  -- a map that is ready for the record has the same entries, and `next` is the map after the record
   pub next_applied : (first now : MapValue) → AppliedSoFar changes i first now → (ready next : MapValue) → ready.geometry ≡ now.geometry → ready.entries ≡ now.entries
       → Fits now.geometry (get_or changes i d) now.entries → next.geometry ≡ ready.geometry → next.entries ≡ after ready.geometry (get_or changes i d) ready.entries → AppliedSoFar changes (i + 1) first next
   next_applied first now so ready next same_geometry same fit geometry entries =
@@ -115,7 +115,7 @@ few_applied changes p q old ready new few_p few_q reserved same room kept applie
   few = λ is few. few_kept ready new same room kept few;
 })
 
--- the same of what the calls answered
+-- the same for the answers of the calls
 pub few_records : (changes : List Record) (applied : Bool) (p q : ℕ) (old ready new : MapValue) → p ≤ most_page_records → q ≤ most_page_records → IsReserved p q old ready → new.geometry ≡ ready.geometry
     → OnTrue applied (new.spare_pages + pages_needed changes ≡ ready.spare_pages) → OnTrue applied (new.spare_groups + groups_needed changes ≡ ready.spare_groups) → KeepsBuckets ready new
     → after_all ready.geometry changes ready.entries ≡ cond applied (Some new.entries) None → IsTrue applied → KeepsFewBuckets old new

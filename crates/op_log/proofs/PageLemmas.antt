@@ -1,4 +1,4 @@
--- A page of the log, and what a program of it leaves.
+-- A page of the log, and the flash after a program of it.
 use Rattle.std.proofs.Common.{◌≡◌, ◌≤◌, ℕ, inl, inr, true, cond, List, Some, None, sym, ◌∙◌, ap, subst, arith, lt-ltb}
 use Rattle.std.proofs.lemmas.Bool.{cases_lt, le-ltb}
 use Rattle.std.proofs.lemmas.Bool.Decides.{nat_tests}
@@ -21,7 +21,7 @@ use Rattle.cache_model.proofs.LogLemmas.{set_page-here}
 use Rattle.op_log.specs.Stamps.{own_stamp}
 use Rattle.op_log.specs.Log.{LogValue, next_place, log_header, IsLogPage, Appended, AppendedReady, LeavesLog, log_spare, HasSpare}
 
--- a page of format 2 takes as many records as one of the geometry has
+-- a page of format 2 takes all records that a page of the geometry has
 pub records_fit : (g : Geometry) → page_records g ≤ most_records_of (is_wide 2 g.p)
 records_fit g = elim (cases_lt 64 g.p) [
   | inl many ↦ subst (λ wide. page_records g ≤ most_records_of wide) (sym (lt-ltb 64 g.p many)) (omega (arith, q_wide g many))

@@ -96,7 +96,7 @@ module _ (g : Geometry) (region : ℕ) (stamp : Stamp) (page : Place → Page) (
   rolled_refused i now new refused.PowerLost within so step = tt
   rolled_refused i now new refused.OutOfMemory within so step = tt
 
--- ---- one turn of the walk, over media that are as they were at its start
+-- ---- one turn of the walk, over media that are unchanged since its start
 
 module _ (g : Geometry) (region : ℕ) (stamp : Stamp) (start here : Contents) (same : here ≡ start) (first now new : Entries) (i : ℕ) (at : Place) (is_at : at ≡ log_at g region i) (within : i < log_pages g) (so : RolledSoFar g region stamp start.flash.page first i now) where
   abbrev step_here : Option (Result Entries Refusal)

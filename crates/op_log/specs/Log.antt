@@ -1,4 +1,4 @@
--- The operation log: what is buffered, and the page that takes it.
+-- The operation log: the buffered records, and the page that takes them.
 use Rattle.std.specs.Prelude.{◌≡◌, ◌⊎◌, ◌≤◌, ◌+◌, ℕ, List, [], ◌∷◌, ◌++◌, length, Some}
 use Rattle.ft_base.specs.declared.geometry.Geometry.{Geometry}
 use Rattle.ft_base.specs.declared.block.Block.{Block}
@@ -19,7 +19,7 @@ use Rattle.cache_model.specs.Reading.{read_records}
 use Rattle.cache_model.specs.Loading.{header_at, said}
 use Rattle.op_log.specs.Stamps.{own_stamp}
 
--- a log: where it lies, its era, the page to program next, and the records that no page has yet
+-- a log: its region, its era, the page to program next, and the records that no page has yet
 pub record LogValue : Type 0 where
   pub geometry : Geometry
   pub region : ℕ
@@ -37,19 +37,19 @@ pub record FitsOn (g : Geometry) (shape : Shape) : Type 0 where
   pub blocks : blocks g ≤ shape.blocks
   pub size : g.size ≤ shape.size
 
--- the log is empty, and goes on at page 0 of this region
+-- the log is empty, and continues at page 0 of this region
 abbrev pub restarted : ℕ → ℕ → LogValue → LogValue
 restarted region era log = record log { region = region; era = era; next = 0; buffered = [] }
 
 abbrev pub pushed : Record → LogValue → LogValue
 pushed change log = record log { buffered = log.buffered ++ change ∷ [] }
 
--- one thing where something is buffered, another where nothing is
+-- one value if something is buffered, and another if nothing is
 abbrev pub if_buffered : {A : Type 0} → List Record → A → A → A
 if_buffered [] some none = none
 if_buffered (change ∷ changes) some none = some
 
--- all that was buffered has a page
+-- all buffered records have a page
 abbrev pub log_flushed : LogValue → LogValue
 log_flushed log = if_buffered log.buffered (record log { next = log.next + 1; buffered = [] }) log
 
@@ -59,22 +59,22 @@ pub record IsLogPage (p era sequence : ℕ) (changes : List Record) (page : Page
   pub head : header_at Log (own_stamp era) sequence page ≡ Some header
   pub records : said (read_records p header) page ≡ Some changes
 
--- the log's next page has all that was buffered, and no other page changed
+-- the log's next page has all buffered records, and no other page changed
 pub record Appended (log : LogValue) (old new : Flash) : Type 0 where
   pub page : Page
   pub is_page : IsLogPage log.geometry.p log.era log.next log.buffered page
   pub pages : new.page ≡ set_page old.page (next_place log) page
 
--- and the page after it is next
+-- the page behind it is next
 pub record AppendedReady (log : LogValue) (old new : Flash) : Type 0 where
   pub appended : Appended log old new
   pub next : new.next ≡ set old.next (next_place log).block (Some ((next_place log).page + 1))
 
--- whatever is answered, the log's next page is as before, torn, or has all that was buffered
+-- whatever the call answers, the log's next page is unchanged, torn, or has all buffered records
 abbrev pub LeavesLog : LogValue → Flash → Flash → Type 0
 LeavesLog log old new = (new.page ≡ old.page) ⊎ (new.page ≡ set_page old.page (next_place log) Torn) ⊎ Appended log old new
 
--- one program, where something is buffered
+-- one program, if something is buffered
 abbrev pub log_flush_counted : LogValue → Counts → Counts
 log_flush_counted log counts = if_buffered log.buffered (program_counted counts) counts
 

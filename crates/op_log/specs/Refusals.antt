@@ -1,4 +1,4 @@
--- Why an opening was refused.
+-- Why an opening failed.
 use Rattle.std.specs.Prelude.{◌≡◌, Bool, true, false, Result, Ok, Err, ⊤}
 use Rattle.ft_base.specs.declared.geometry.Geometry.{Geometry}
 use Rattle.cache_model.specs.declared.format.Seal.{Seal}
@@ -25,7 +25,8 @@ open_lost (Ok value) = false
 abbrev pub seal_of : Geometry → Seal
 seal_of g = record { p = g.p; c = g.c; l = g.l; j = g.j; size = g.size }
 
--- a refusal is the one that loading has; a fault, a cut and want of memory come by themselves, and the disk isn't asked
+-- an error of loading is the one that loading is defined to give. A fault, a cut and out of memory come by themselves,
+-- and the disk isn't asked
 abbrev pub IsRefusal : {A : Type 0} → Geometry → OpenError → Result A Refusal → Type 0
 IsRefusal g NotFormatted loads = loads ≡ Err loading.NotFormatted
 IsRefusal g (OtherGeometry found wanted) loads = (loads ≡ Err (loading.OtherGeometry found)) × (wanted ≡ seal_of g)
@@ -35,13 +36,14 @@ IsRefusal g DiskFault loads = ⊥
 IsRefusal g PowerLost loads = ⊤
 IsRefusal g OutOfMemory loads = ⊤
 
--- what a refused read of the flash makes of an opening
+-- the error of an opening after a read of the flash that failed with this error
 abbrev pub opening_refusal : MediaError → OpenError
 opening_refusal device.Failed = FlashFault
 opening_refusal device.PowerLost = PowerLost
 opening_refusal device.OutOfMemory = OutOfMemory
 
--- reading pages of records is refused so: they may be damaged, but they are no seal, and the disk isn't asked
+-- reading pages of records may fail with this error: the pages may be damaged, but they are no seal, and the disk isn't
+-- asked
 abbrev pub IsOfPages : OpenError → Type 0
 IsOfPages (Damaged block page) = ⊤
 IsOfPages FlashFault = ⊤

@@ -11,6 +11,6 @@ named stamp = record { format = stamp.format; era = stamp.era }
 abbrev pub stamped : ℕ → ℕ → Stamp
 stamped format era = record { format = format; era = era }
 
--- what is written has format 2
+-- pages that are written have format 2
 abbrev pub own_stamp : ℕ → Stamp
 own_stamp era = record { format = 2; era = era }

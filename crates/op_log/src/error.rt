@@ -53,7 +53,7 @@ impl From<AllocError> for OpenError {
     }
 }
 
-/// A read of the flash was refused.
+/// The error of an opening after a read of the flash that failed.
 pub(crate) fn of_media(error: MediaError) -> OpenError
     ensures { result ≡ opening_refusal error }
 {

@@ -45,7 +45,7 @@ impl Model for OpLog {
 }
 
 impl OpLog {
-    /// An empty log at page 0 of a region, with its ring and a page to write in.
+    /// An empty log at page 0 of a region, with its ring and a page for writing.
     pub fn new(
         alloc: Global,
         geometry: &Geometry,
@@ -70,7 +70,7 @@ impl OpLog {
         })
     }
 
-    /// Buffers a change. It takes no memory.
+    /// Buffers a change. It allocates nothing.
     #[tactic(auto, using(ft_base::proofs::LayoutLemmas::q_most))]
     pub fn push(&mut self, change: Record)
         requires room { length self.old.buffered < page_records self.old.geometry }
@@ -80,7 +80,7 @@ impl OpLog {
         self.ring.push(change);
     }
 
-    /// How many changes are buffered: at most those of a page.
+    /// How many changes are buffered: at most as many as a page takes.
     pub fn buffered(&self) -> u32
         ensures buffered { result ≡ length self.now.buffered }
         ensures most { result ≤ page_records self.now.geometry }
@@ -112,7 +112,7 @@ impl OpLog {
         self.era
     }
 
-    /// Empties the log and puts it on page 0 of a region, with an era.
+    /// Empties the log and moves it to page 0 of a region, with an era.
     pub fn restart(&mut self, region: u32, era: u8)
         requires region { region < 2 }
         requires era { era ≤ 2 }
@@ -124,7 +124,7 @@ impl OpLog {
         self.ring.clear();
     }
 
-    /// Programs one page of format 2 with all that is buffered, in order. Where nothing is, it does nothing.
+    /// Programs one page of format 2 with all buffered changes, in order. If nothing is buffered, it does nothing.
     #[tactic(auto, using(crate::proofs::PageLemmas::records_fit))]
     pub fn flush<M: Media>(&mut self, media: &mut M) -> Result<(), MediaError>
         requires shape { FitsOn self.old.geometry (M.state media.old).contents.shape }
@@ -137,7 +137,7 @@ impl OpLog {
             → HasSpare (log_spare self.old.era self.old.next) ((M.state media.new).contents.flash.page (next_place self.old))) }
         ensures log { OnOk result (self.new ≡ log_flushed self.old) }
         ensures refused { OnErr result (self.new ≡ self.old) }
-        // Whatever is answered, and wherever power went off, the page is whole or the log ends before it.
+        // Whatever the call answers, and whenever power goes off, the page is whole or the log ends before it.
         ensures pages { LeavesLog self.old (M.state media.old).contents.flash (M.state media.new).contents.flash }
         ensures counts { (M.state media.new).counts ≡ if_ok result (log_flush_counted self.old (M.state media.old).counts)
             (M.state media.old).counts }

@@ -43,14 +43,14 @@ impl Ring {
         self.records.len() as u32
     }
 
-    /// Puts a record to the end.
+    /// Puts a record at the end.
     pub(crate) fn push(&mut self, change: Record)
         requires room { length self.old < most_page_records }
         ensures { self.new ≡ self.old ++ change ∷ [] }
     {
         match self.records.try_push_back(change) {
             Ok(()) => {}
-            // It was made with room for the records of a whole page, and fewer are in it.
+            // The ring was made with room for the records of a whole page, and it has fewer.
             Err(_) => unreachable!(),
         }
     }

@@ -4,10 +4,10 @@ ghost use Rattle.op_log.specs.Stamps.{named};
 
 use cache_model::Header;
 
-/// What the pages of a checkpoint and those of its log have in common.
+/// The format and the era, which the pages of a checkpoint and of its log share.
 #[derive(Clone, Copy, Debug, PartialEq, Eq)]
 pub struct Stamp {
-    /// How the pages are spelled, 1 or 2.
+    /// The format in which the pages are spelled, 1 or 2.
     pub format: u8,
     /// The era, 0 to 2.
     pub era: u8,
@@ -24,7 +24,7 @@ impl Stamp {
         }
     }
 
-    /// Whether a page with this header has it.
+    /// Whether a page with this header has the stamp.
     pub fn is_of(&self, header: &Header) -> bool
         ensures { result ≡ has_stamp (named self.now) header.now }
     {

@@ -23,8 +23,8 @@ use mapping::Map;
 use record_codec::{Header, read_page_header, read_records};
 use std::alloc::AllocError;
 
-/// Reads a page, and applies its records to the map where it is one of this kind and stamp with this
-/// sequence. False where it isn't: then the map stays.
+/// Reads a page. If it is of this kind and stamp, with this sequence, applies its records to the map. It answers false
+/// if the page isn't; then the map is unchanged.
 pub fn apply_page<M: Media>(
     media: &mut M,
     geometry: &Geometry,
@@ -88,7 +88,7 @@ fn is_whole(found: PageRead) -> bool
     }
 }
 
-/// The header of a page of records, where it is one of this kind and stamp, at its own place.
+/// The header of a page of records, if the page is of this kind and stamp, at its own place.
 fn header_of(block: &Block, kind: PageKind, stamp: Stamp, sequence: u32) -> Option<Header>
     ensures value { result ≡ when (is_page kind (named stamp) sequence) (header_read block.now.0) }
     ensures read { IfSome result (λ h. header_read block.now.0 ≡ Some h) }
@@ -100,15 +100,15 @@ fn header_of(block: &Block, kind: PageKind, stamp: Stamp, sequence: u32) -> Opti
     Some(header)
 }
 
-/// Whether a header is one of this kind and stamp, and says that its page stands at this place.
+/// Whether a header is of this kind and stamp, and says that its page stands at this place.
 fn is_page(header: &Header, kind: PageKind, stamp: Stamp, sequence: u32) -> bool
     ensures { result ≡ is_page kind (named stamp) sequence header.now }
 {
     header.kind == kind && stamp.is_of(header) && header.sequence == sequence
 }
 
-/// Applies the records of a page in order, for a cache with `p` pages in an erase block. False where the
-/// page is none of records, or one of them doesn't fit when its turn comes.
+/// Applies the records of a page in order, for a cache with `p` pages in an erase block. It answers false if the page
+/// has no such records, or one of them doesn't fit when its turn comes.
 fn apply_records(page: &Block, header: &Header, p: u32, map: &mut Map) -> Result<bool, AllocError>
     requires p { p ≡ map.old.geometry.p }
     requires header { header_read page.now.0 ≡ Some header.now }
@@ -157,8 +157,8 @@ fn sets_group(change: &Record) -> bool
     matches!(*change, Record::SetGroup { .. })
 }
 
-/// Applies records in order, for all of which there is room. False where one of them doesn't fit when
-/// its turn comes.
+/// Applies records in order. There is room for all of them. It answers false if one of them doesn't fit when its turn
+/// comes.
 fn apply_all(changes: &[Record], map: &mut Map) -> bool
     requires pages { pages_needed changes.now ≤ map.old.spare_pages }
     requires groups { groups_needed changes.now ≤ map.old.spare_groups }
@@ -177,8 +177,8 @@ fn apply_all(changes: &[Record], map: &mut Map) -> bool
     true
 }
 
-/// Applies the pages of the log of a region to a map, and says how many there are. `era` and `format` are those of
-/// the chosen checkpoint: a page of another era or format ends the log.
+/// Applies the pages of the log of a region to a map, and says how many there are. `era` and `format` belong to the
+/// chosen checkpoint: a page of another era or format ends the log.
 pub fn roll<M: Media>(
     media: &mut M,
     geometry: &Geometry,

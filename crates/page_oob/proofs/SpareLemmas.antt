@@ -6,7 +6,7 @@ use Rattle.cache_model.specs.Spelling.{SpareFields, spare_fields, spelled_spare,
 use Rattle.cache_model.specs.Reading.{byte, number, spare_kind_of, spare_fields_in, read_spare}
 use Rattle.cache_model.proofs.SpellingLemmas.{spare_read}
 
--- what was found in the bytes, and what the tests say of it
+-- the fields that were found in the bytes, and the meaning of the tests
 pub record Found (bytes : List ℕ) (kind : SpareKind) (era address : ℕ) : Type 0 where
   pub kind_is : kind ≡ spare_kind_of (byte 4 bytes)
   pub era_is : era ≡ byte 5 bytes

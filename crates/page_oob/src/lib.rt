@@ -1,7 +1,7 @@
-//! The spare bytes of a page, written and read: what the page is for, its era, and its address.
+//! The spare bytes of a page, written and read: the purpose of the page, its era, and its address.
 //!
-//! The grammar is `cache_model`'s `IsSpare`. What is written is in it; what is read is in it too, and
-//! nothing in it is refused. Loading looks at no spare bytes; only a scrub of the flash does.
+//! The grammar is `cache_model`'s `IsSpare`. All bytes that are written are in it. All bytes that are read are in it
+//! too, and no bytes in it are refused. Loading reads no spare bytes; only a scrub of the flash does.
 #![tactic(auto)]
 
 mod spare;

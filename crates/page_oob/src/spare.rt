@@ -7,7 +7,7 @@ ghost use Rattle.page_oob.specs.Parts.{parts};
 use cache_model::SpareKind;
 use ft_base::Spare;
 
-// What all spare bytes begin with.
+// The bytes with which all spare bytes begin.
 const MAGIC: [u8; 4] = *b"FTSP";
 
 // The kinds of a page.
@@ -33,7 +33,7 @@ fn kind_byte(kind: SpareKind) -> u8
     }
 }
 
-/// The kind of a byte. One of no kind is taken for a seal, whose byte it isn't.
+/// The kind of a byte. A byte of no kind is taken for a seal, whose byte it isn't.
 fn kind_of(byte: u8) -> SpareKind
     ensures { result ≡ spare_kind_of byte }
 {
@@ -89,8 +89,8 @@ fn spelled(kind: SpareKind, era: u8, address: u64) -> [u8; 32]
     bytes
 }
 
-/// The spare bytes of a page: of a data page the disk address, of a page of the log or of a
-/// checkpoint its place in its region.
+/// The spare bytes of a page. The address is the disk address of a data page, and its place in its region for a page of
+/// the log or of a checkpoint.
 pub fn write_spare(kind: SpareKind, era: u8, address: u64) -> Spare
     requires { IsTrue (suits_kind kind era address) }
     ensures { IsSpare result.0 (spare_fields kind era address) }
@@ -98,7 +98,7 @@ pub fn write_spare(kind: SpareKind, era: u8, address: u64) -> Spare
     Spare(spelled(kind, era, address))
 }
 
-/// The kind, era and address of spare bytes: exactly where they are in the grammar.
+/// The kind, era and address of spare bytes. They are there exactly when the bytes are in the grammar.
 pub fn read_spare(spare: &Spare) -> Option<(SpareKind, u8, u64)>
     ensures value { result ≡ option_map parts (spare_read spare.now.0) }
     ensures grammar { MatchOption result ((fields : SpareFields) → ¬ IsSpare spare.now.0 fields)

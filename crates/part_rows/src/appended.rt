@@ -17,10 +17,10 @@ const DATA_PAGE: [u8; 32] = *b"FTSP\x01\0\0\0\0\0\0\0\0\0\0\x05\0\0\0\0\0\0\0\0\
 /// The block and the page of a place.
 type At = (u32, u32);
 
-/// What can be seen of the log blocks and of their flash.
+/// A fact that can be seen of the log blocks and of their flash.
 #[derive(Clone, Copy)]
 enum Fact {
-    /// The block that was taken first, how many are in use, and the pages that the open one has left.
+    /// The block that was taken first, how many are in use, and how many pages the open one has left.
     Blocks {
         oldest: Option<u32>,
         used: u32,
@@ -30,7 +30,7 @@ enum Fact {
     Room(u32),
     /// The block of a number, in the order in which they were taken.
     Nth(u32, u32),
-    /// A data page of address 5 stands there, which begins with this byte.
+    /// A data page of address 5 stands there, and begins with this byte.
     DataPage(At, u8),
     /// Whether a whole page is there.
     Whole(At, bool),
@@ -47,10 +47,10 @@ enum Line {
     Adopt(u32, bool),
     /// A block is released, or isn't there.
     Release(u32, bool),
-    /// A page of address 5 that begins with this byte is appended, which is answered so. None where no block is
-    /// ready for it.
+    /// A page of address 5 that begins with this byte is appended, with this answer. `None` if no block is ready for
+    /// it.
     Append(u8, Option<Result<At, MediaError>>),
-    /// What is seen then.
+    /// The fact that is seen then.
     See(Fact),
 }
 
@@ -82,7 +82,7 @@ fn is_welcome(logs: &LogBlocks, geometry: &Geometry, block: u32) -> bool
     !is_in_use(logs, block) && logs.used() < geometry.l
 }
 
-/// Begins the block, where it may be put at the end.
+/// Begins the block, if it may be put at the end.
 fn begin(logs: &mut LogBlocks, geometry: &Geometry, block: u32) -> bool
     requires { logs.old.geometry ≡ geometry.now }
     ensures { logs.new.geometry ≡ logs.old.geometry }
@@ -94,7 +94,7 @@ fn begin(logs: &mut LogBlocks, geometry: &Geometry, block: u32) -> bool
     true
 }
 
-/// Adopts the block, where it may be put at the end.
+/// Adopts the block, if it may be put at the end.
 fn adopt(logs: &mut LogBlocks, geometry: &Geometry, block: u32) -> bool
     requires { logs.old.geometry ≡ geometry.now }
     ensures { logs.new.geometry ≡ logs.old.geometry }
@@ -106,7 +106,7 @@ fn adopt(logs: &mut LogBlocks, geometry: &Geometry, block: u32) -> bool
     true
 }
 
-/// Releases the block, where it is in the list.
+/// Releases the block, if it is in the list.
 fn release(logs: &mut LogBlocks, block: u32) -> bool
     ensures { logs.new.geometry ≡ logs.old.geometry }
 {
@@ -117,7 +117,7 @@ fn release(logs: &mut LogBlocks, block: u32) -> bool
     true
 }
 
-/// The page of the open block to program next, where there is one.
+/// The page of the open block to program next, if there is one.
 fn append_place(logs: &LogBlocks, geometry: &Geometry) -> Option<Place>
     requires { logs.now.geometry ≡ geometry.now }
     ensures place { IfSome result (λ at. at ≡ append_place logs.now) }
@@ -147,7 +147,7 @@ fn is_ready(rig: &MemRig, at: Place) -> bool
     }
 }
 
-/// Appends a page of address 5 with this first byte, where the open block is ready and has a page left.
+/// Appends a page of address 5 with this first byte, if the open block is ready and has a page left.
 fn append(
     rig: &mut MemRig,
     logs: &mut LogBlocks,
@@ -172,7 +172,7 @@ fn append(
     }
 }
 
-/// The first byte of a page and its spare bytes, where it is whole.
+/// The first byte of a page and its spare bytes, if the page is whole.
 fn read(rig: &mut MemRig, at: At) -> Option<(u8, Spare)> {
     let (block, page) = at;
     if block >= rig.flash_blocks() || page >= rig.flash_pages() {
@@ -186,7 +186,7 @@ fn read(rig: &mut MemRig, at: At) -> Option<(u8, Spare)> {
     }
 }
 
-/// Whether a data page of address 5 stands there, which begins with this byte.
+/// Whether a data page of address 5 stands there, and begins with this byte.
 fn is_data_page(rig: &mut MemRig, at: At, first: u8) -> bool {
     match read(rig, at) {
         Some((byte, spare)) => byte == first && spare.0 == DATA_PAGE,
@@ -207,7 +207,7 @@ fn holds(rig: &mut MemRig, logs: &LogBlocks, fact: Fact) -> bool {
     }
 }
 
-/// Does what the line says. Whether what it tells is so.
+/// Does what the line says. Answers whether the facts of the line hold.
 fn is_so(rig: &mut MemRig, logs: &mut LogBlocks, geometry: &Geometry, line: Line) -> bool
     requires { logs.old.geometry ≡ geometry.now }
     ensures { logs.new.geometry ≡ logs.old.geometry }
@@ -221,8 +221,8 @@ fn is_so(rig: &mut MemRig, logs: &mut LogBlocks, geometry: &Geometry, line: Line
     }
 }
 
-/// Goes through the lines, from no log block on, on flash of which these calls will fail. Says which is the first
-/// that tells what isn't so.
+/// Goes through the lines, beginning with no log block, on flash in which these calls will fail. Answers the first line
+/// whose facts don't hold.
 fn first_wrong(alloc: Global, failing: &[u64], lines: &[Line]) -> Result<Option<usize>, Fail> {
     let geometry = Geometry::new(4, 2, 4, 2, 64)?;
     let mut rig = rig_failing(alloc, failing)?;
@@ -348,7 +348,7 @@ fn a_failed_program_leaves_the_room(rt: HostRuntime) -> Result<(), Fail> {
     Ok(())
 }
 
-/// Whether a block is in a list, and these are left without it.
+/// Whether a block is in a list, and these blocks are left without it.
 fn is_without(
     alloc: Global,
     used: &[u32],

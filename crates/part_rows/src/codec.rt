@@ -1,4 +1,4 @@
-//! Pages of records and seals of both formats, written where they may be, and read beside plain programs.
+//! Pages of records and seals of both formats, written if they may be, and read beside plain programs.
 
 ghost use Rattle.std.specs.Prelude.{◌≡◌, ◌≤◌, IsTrue, length};
 ghost use Rattle.std.specs.Bool.{OnTrue};
@@ -13,7 +13,7 @@ use record_codec::{
 };
 use std::process::Abort;
 
-// ---- pages are written where they may be
+// ---- pages are written if they may be
 
 fn is_wide(format: u8, p: u32) -> bool
     ensures { result ≡ spelling.is_wide format p }
@@ -75,7 +75,7 @@ fn is_log_or_map(kind: PageKind) -> bool
     }
 }
 
-/// Whether a page has so many records.
+/// Whether a page has room for this many records.
 fn has_room(wide: bool, count: usize) -> bool
     ensures some { OnTrue result (1 ≤ count) }
     ensures room { OnTrue result (count ≤ spelling.most_records_of wide) }
@@ -83,7 +83,7 @@ fn has_room(wide: bool, count: usize) -> bool
     1 <= count && count <= if wide { 84 } else { 127 }
 }
 
-/// Writes a page. False where no such page may be written.
+/// Writes a page. False if no such page may be written.
 pub(crate) fn write(out: &mut Block, header: &Header, p: u32, changes: &[Record]) -> bool {
     let wide = is_wide(header.format, p);
     if !is_format(header.format) || !is_log_or_map(header.kind) || header.era > 2 {
@@ -99,7 +99,7 @@ pub(crate) fn write(out: &mut Block, header: &Header, p: u32, changes: &[Record]
     true
 }
 
-// ---- what is read
+// ---- reading
 
 const NOTHING: [Record; 127] = [Record::Remove { lba: 0 }; 127];
 
@@ -168,7 +168,7 @@ fn is_seal(kind: PageKind) -> bool
     }
 }
 
-/// Writes a seal. False where no such seal may be written.
+/// Writes a seal. False if no such seal may be written.
 pub(crate) fn seal(out: &mut Block, header: &Header, seal: &Seal, totals: &Totals) -> bool {
     if !is_format(header.format) || !is_seal(header.kind) || header.era > 2 {
         return false;
@@ -192,7 +192,7 @@ pub(crate) fn is_sealed(header: &Header, numbers: &Seal, totals: &Totals) -> boo
         && read_page_header(&page).is_none()
 }
 
-/// Sees that nothing was found that is otherwise.
+/// Checks that no difference was found.
 pub(crate) fn assert_none(rt: &impl Abort, other: Option<usize>) {
     assert_eq!(rt; other, None);
 }

@@ -1,7 +1,6 @@
-//! Worked examples of the parts of which a cache is made: records and entries, the bytes of pages, the map, victims, and
-//! log blocks.
+//! Worked examples of the parts of a cache: records and entries, the bytes of pages, the map, victims, and log blocks.
 //!
-//! No layer stands on this crate; it has tests alone.
+//! No layer uses this crate; it has only tests.
 #![tactic(auto)]
 
 #[cfg(test)]

@@ -1,5 +1,5 @@
-//! The map: what fits it, what it counts, where an address stands and who owns a page, what a checkpoint has of it, and
-//! which data blocks may give way.
+//! The map: the changes that fit it, its counts, the place of an address and the owner of a page. Also the records of a
+//! checkpoint, and the data blocks that may give way.
 
 use ft_base::{Geometry, Place, Record};
 use mapping::Map;
@@ -9,34 +9,34 @@ use std::test::Fail;
 /// The block and the page of a place.
 type At = (u32, u32);
 
-/// What can be seen of a map.
+/// A fact that can be seen of a map.
 #[derive(Clone, Copy)]
 enum Fact {
     /// Whether a change fits it.
     Fits(Record, bool),
-    /// Whether a page that becomes that of an address fits it.
+    /// Whether a change that puts an address at this page fits the map.
     FitsPage(u64, At, bool),
-    /// How many entries there are, how many of them are dirty, and how many buckets.
+    /// How many entries there are, how many of them are dirty, and how many buckets there are.
     Entries([u64; 3]),
-    /// How many groups have a dirty entry, how many a data block, and how many blocks have pages of the log.
+    /// How many groups have a dirty entry, how many have a data block, and how many blocks have pages of the log.
     Groups([u32; 3]),
-    /// The held pages of a group, and the dirty ones.
+    /// The held pages of a group, and its dirty pages.
     Pages(u64, [u128; 2]),
-    /// Where a dirty address stands.
+    /// The place of a dirty address.
     Dirty(u64, At),
     /// The address that a page belongs to.
     Owner(At, Option<u64>),
-    /// How many numbers there are, which entries have some of.
+    /// How many numbers there are; entries have some of them.
     Numbers(u32),
     /// The entry of a number.
     Nth(u32, Option<(u64, At)>),
     /// Whether no entry stands in a block.
     StandsNoneIn(u32, bool),
-    /// The group of which a block is the data block.
+    /// The group whose data block this block is.
     GroupIn(u32, Option<u64>),
     /// The data block of a group, and the pages that are present there.
     DataBlock(u64, Option<(u32, u128)>),
-    /// How many held pages the data block of this number in the pool has, where it may give way.
+    /// How many held pages the data block of this number in the pool has, if it may give way.
     Candidate(usize, Option<u16>),
     /// How many records a checkpoint has.
     CheckpointLen(u32),
@@ -85,7 +85,7 @@ fn is_so(map: &Map, fact: Fact) -> bool {
     }
 }
 
-/// The first fact that isn't so.
+/// The first fact that doesn't hold.
 fn first_wrong(map: &Map, facts: &[Fact]) -> Option<usize> {
     for (i, fact) in facts.iter().enumerate() {
         if !is_so(map, *fact) {
@@ -95,14 +95,14 @@ fn first_wrong(map: &Map, facts: &[Fact]) -> Option<usize> {
     None
 }
 
-/// A map of nothing, over a flash whose pool is the blocks 4 to 8, of 4 pages each.
+/// An empty map, over a flash whose pool is the blocks 4 to 8, of 4 pages each.
 fn empty(alloc: Global) -> Result<Map, Fail> {
     let geometry = Geometry::new(4, 2, 2, 1, 64)?;
     let map = Map::new(alloc, &geometry)?;
     Ok(map)
 }
 
-/// Makes a change, where it fits.
+/// Makes a change, if it fits.
 fn change(map: &mut Map, change: &Record) -> Result<(), Fail> {
     map.reserve(1, 1)?;
     if !map.fits(change) {
@@ -112,7 +112,7 @@ fn change(map: &mut Map, change: &Record) -> Result<(), Fail> {
     Ok(())
 }
 
-/// That map with group 1 in its data block, and address 9 dirty in a log block.
+/// The same map with group 1 in its data block, and address 9 dirty in a log block.
 fn built(alloc: Global) -> Result<Map, Fail> {
     let mut map = empty(alloc)?;
     change(&mut map, &GROUP_1)?;
@@ -177,10 +177,10 @@ fn room_for_pages_makes_buckets(rt: HostRuntime) -> Result<(), Fail> {
     Ok(())
 }
 
-/// The first tables that a packed map doubles through.
+/// The sizes that a packed map's table has as it doubles.
 const TABLES: [u32; 6] = [32, 64, 128, 256, 512, 1024];
 
-/// How many buckets so many items ask of a map that has none: the first table of which a quarter stays free.
+/// How many buckets this many items need in a map that has none: the first table with a quarter of it free.
 fn asked_by(items: u32) -> u32 {
     for buckets in TABLES {
         if 4 * items as u64 <= 3 * buckets as u64 {
@@ -190,12 +190,12 @@ fn asked_by(items: u32) -> u32 {
     0
 }
 
-/// Whether buckets are few for so many items, as the contracts have it.
+/// Whether buckets are few for this many items, as the contracts define it.
 fn are_few(items: u32, buckets: u32) -> bool {
     buckets <= 32 || 3 * (buckets as u64) < 8 * items as u64
 }
 
-// A table is few for so many items exactly where it is no larger than what they ask of a map that has none.
+// A table is few for a number of items exactly when it is at most as large as they need in a map without buckets.
 #[test]
 fn few_buckets_are_what_the_items_ask(rt: HostRuntime) -> Result<(), Fail> {
     for items in 0..768 {
@@ -226,7 +226,7 @@ fn a_checkpoint_has_groups_and_then_pages(rt: HostRuntime) -> Result<(), Fail> {
     Ok(())
 }
 
-/// Makes a change, and tells whether block 6 may give way then, with so many held pages.
+/// Makes a change. Answers whether block 6 may give way after that, with this many held pages.
 fn is_candidate_after(map: &mut Map, made: &Record, count: Option<u16>) -> Result<bool, Fail> {
     change(map, made)?;
     Ok(is_so(map, Fact::Candidate(2, count)))

@@ -1,16 +1,16 @@
-//! The bytes of pages of records, in both formats, and what no page may have.
+//! The bytes of pages of records, in both formats, and the records that no page may have.
 
 use crate::codec::{assert_none, is_written, reads_alike, write};
 use ft_base::{Block, Place, Record, zero_block};
 use plain_format::spelled_page;
 use record_codec::{Header, PageKind, read_header};
 
-// ---- pages as written down
+// ---- pages, written by hand
 
 /// A page of one record.
 struct Written {
     header: Header,
-    /// The pages of an erase block.
+    /// How many pages an erase block has.
     p: u32,
     change: Record,
     /// Its first 32 bytes.
@@ -149,7 +149,7 @@ const WRITTEN: [Written; 7] = [
         head: LOG_2,
         line: &PAGE_127_LINE,
     },
-    // In format 1 a record has 32 bytes, however many pages there are.
+    // In format 1 a record has 32 bytes, however many pages an erase block has.
     Written {
         header: OLD_MAP,
         p: 128,
@@ -182,9 +182,9 @@ fn pages_have_the_bytes_written_down(rt: HostRuntime) {
     assert_none(&rt, first_not_written(WRITTEN.as_slice()));
 }
 
-// ---- what no page may have
+// ---- records that no page may have
 
-/// A record that no page has, of a format and with these pages in an erase block.
+/// A record that no page has, with a format and the number of pages of an erase block.
 const UNSOUND: [(u8, u32, Record); 6] = [
     // Page 127 and a set with it, in records of 32 bytes.
     (1, 128, PAGE_127),
@@ -234,12 +234,12 @@ fn records_that_no_page_has_are_not_written(rt: HostRuntime) {
     assert_none(&rt, first_written(UNSOUND.as_slice()));
 }
 
-/// A page of one record in which a byte is changed: its format and P, the byte and its value, and whether it is
-/// still a page of records.
+/// A page of one record in which a byte is changed: its format and P, the byte and its value, and whether it still is a
+/// page of records.
 type Changed = (u8, u32, usize, u8, bool);
 
 const CHANGED: [Changed; 12] = [
-    // Another format, where records have the same bytes in both, and where they don't.
+    // Another format: once with the same bytes of a record in both, and once with other bytes.
     (1, 64, 8, 2, true),
     (2, 64, 8, 1, true),
     (2, 64, 8, 0, false),
@@ -280,9 +280,9 @@ fn a_page_with_another_byte_may_be_none(rt: HostRuntime) {
     assert_none(&rt, first_not_changed(CHANGED.as_slice()));
 }
 
-// ---- how many records
+// ---- the number of records
 
-/// What is read of a page.
+/// The result of reading a page.
 #[derive(Clone, Copy, PartialEq, Eq)]
 enum Reads {
     Records,
@@ -290,7 +290,7 @@ enum Reads {
     Nothing,
 }
 
-/// Format, P, how many records there are, and what is read of their page.
+/// The format, P, how many records there are, and the result of reading their page.
 type Count = (u8, u32, usize, Reads);
 
 const COUNTS: [Count; 16] = [
@@ -314,7 +314,7 @@ const COUNTS: [Count; 16] = [
 
 const MANY: [Record; 128] = [PAGE_5; 128];
 
-/// What both programs read of a page. None where they differ.
+/// The result of both programs for a page. `None` if they differ.
 fn read_of(page: &Block, p: u32) -> Option<Reads> {
     match reads_alike(page, p) {
         Some(true) => Some(Reads::Records),
@@ -324,7 +324,7 @@ fn read_of(page: &Block, p: u32) -> Option<Reads> {
     }
 }
 
-/// Whether such a page is read so, and written exactly where it is one of records.
+/// Whether such a page has this result, and can be written exactly when it is a page of records.
 fn is_counted((format, p, count, wanted): Count) -> bool {
     if count > 128 {
         return false;

@@ -1,5 +1,5 @@
-//! Pages and seals at random, of both formats and both widths, written and read beside the plain programs, and read
-//! again with a bit turned round.
+//! Pages and seals at random, of both formats and both widths. They are written and read beside the plain programs, and
+//! read again with a bit flipped.
 
 use crate::codec::{assert_none, is_sealed, is_written, reads_alike};
 use ft_base::{Block, Place, Record};
@@ -95,7 +95,7 @@ fn header(words: &mut Lcg64Xsh32, format: u8, wide: bool) -> Header {
     }
 }
 
-/// Turns a bit round, mostly one in front.
+/// Flips a bit, mostly one in front.
 fn turn(words: &mut Lcg64Xsh32, page: &mut Block) {
     let end = 1_u32 << (5 + words.next_word() % 8);
     let at = (words.next_word() % end) as usize % 4096;
@@ -104,7 +104,7 @@ fn turn(words: &mut Lcg64Xsh32, page: &mut Block) {
 
 // ---- pages
 
-/// Whether a page is read alike after each of some changes, one after another.
+/// Whether both programs read a page alike after each of some changes, one after another.
 fn turns_alike(words: &mut Lcg64Xsh32, page: &Block, p: u32) -> bool {
     let mut page = *page;
     for _ in 0..4 {
@@ -116,7 +116,7 @@ fn turns_alike(words: &mut Lcg64Xsh32, page: &Block, p: u32) -> bool {
     true
 }
 
-/// Whether a page at random is written and read as it should be, and after changes read as by the plain program.
+/// Whether a random page is written and read as it should be, and after changes is read as by the plain program.
 fn is_page_so(words: &mut Lcg64Xsh32, format: u8, p: u32) -> bool {
     let wide = format == 2 && p > 64;
     let header = header(words, format, wide);
@@ -126,7 +126,7 @@ fn is_page_so(words: &mut Lcg64Xsh32, format: u8, p: u32) -> bool {
     is_written(&header, p, some) && turns_alike(words, &spelled_page(&header, p, some), p)
 }
 
-/// The first page at random that isn't so.
+/// The first random page for which `is_page_so` doesn't hold.
 fn first_other_page(format: u8, p: u32) -> Option<usize> {
     let mut words = Lcg64Xsh32::seed_from_u64(u64::from(p));
     for number in 0..25 {
@@ -166,7 +166,7 @@ fn numbers(words: &mut Lcg64Xsh32) -> Seal {
     }
 }
 
-/// Whether a seal is read alike after each of some changes, one after another.
+/// Whether both programs read a seal alike after each of some changes, one after another.
 fn turns_seal_alike(words: &mut Lcg64Xsh32, page: &Block) -> bool {
     let mut page = *page;
     for _ in 0..4 {
@@ -189,7 +189,7 @@ fn is_seal_so(words: &mut Lcg64Xsh32, format: u8) -> bool {
         && turns_seal_alike(words, &spelled_seal(&header, &numbers, &totals))
 }
 
-/// The first seal at random that isn't so.
+/// The first random seal for which `is_seal_so` doesn't hold.
 fn first_other_seal(format: u8) -> Option<usize> {
     let mut words = Lcg64Xsh32::seed_from_u64(u64::from(format));
     for number in 0..50 {

@@ -49,7 +49,7 @@ fn seals_have_the_bytes_written_down(rt: HostRuntime) {
     assert!(rt; is_seal_as_written_down(2, &SEAL_2));
 }
 
-/// A seal in which a byte is changed: its format, the byte and its value, and whether it is still a seal.
+/// A seal in which a byte is changed: its format, the byte and its value, and whether it still is a seal.
 type ChangedSeal = (u8, usize, u8, bool);
 
 const CHANGED_SEALS: [ChangedSeal; 12] = [

@@ -5,18 +5,18 @@ use std::alloc::Global;
 use std::marker::Model;
 use std::test::Fail;
 
-/// What can be seen of a map, and of the group that gives way.
+/// A fact that can be seen of a map, and of the group that gives way.
 #[derive(Clone, Copy)]
 enum Fact {
     /// This group gives way.
     Victim(Option<u64>),
-    /// One gives way that may.
+    /// A group that may give way does.
     SomeVictim,
-    /// Whether a group may give way, and none that may has fewer held pages in its data block.
+    /// Whether a group may give way, and no group that may has fewer held pages in its data block.
     MayBeVictim(u64, bool),
-    /// Whether a group has a data block, and nothing of it is dirty.
+    /// Whether a group has a data block, and no dirty address.
     Candidate(u64, bool),
-    /// Whether something of a group is held, and nothing of it is dirty.
+    /// Whether some address of a group is held, and none is dirty.
     WhollyClean(u64, bool),
     /// How many pages of a group's data block are held.
     PagesHeld(u64, u32),
@@ -38,7 +38,7 @@ enum Change {
     SetPage(u64, u32, bool),
     /// The address is clean.
     Clean(u64),
-    /// Nothing of the group is held any more.
+    /// No address of the group is held any longer.
     RemoveGroup(u64),
 }
 
@@ -47,11 +47,11 @@ enum Change {
 enum Line {
     /// A change that is made.
     Make(Change),
-    /// What is seen then.
+    /// The fact that is seen then.
     See(Fact),
 }
 
-/// The record that says so.
+/// The record of this change.
 fn record_of(change: Change) -> Record {
     match change {
         Change::SetGroup {
@@ -75,7 +75,7 @@ fn record_of(change: Change) -> Record {
     }
 }
 
-/// A map, and who chooses the group of it that gives way.
+/// A map, and the chooser of its group that gives way.
 #[derive(Drop)]
 struct Bench {
     geometry: Geometry,
@@ -95,7 +95,7 @@ impl Model for Bench {
 }
 
 impl Bench {
-    /// A map of nothing, with P = 4, C = 4 and L = 2. Its pool is the erase blocks 4 to 10.
+    /// An empty map, with P = 4, C = 4 and L = 2. Its pool is the erase blocks 4 to 10.
     fn new(alloc: Global) -> Result<Bench, Fail> {
         let geometry = Geometry::new(4, 4, 2, 1, 64)?;
         let map = Map::new(alloc, &geometry)?;
@@ -144,7 +144,7 @@ impl Bench {
     }
 }
 
-/// Goes through the lines, from a map of nothing on. Says which is the first that tells what isn't so.
+/// Goes through the lines, beginning with an empty map. Answers the first line whose facts don't hold.
 fn first_wrong(alloc: Global, lines: &[Line]) -> Result<Option<usize>, Fail> {
     let mut bench = Bench::new(alloc)?;
     for i in 0..lines.len() {

@@ -1,6 +1,6 @@
 use ft_base::Block;
 
-/// Puts bytes into a page, from byte `at` on. What would lie behind the page is left out.
+/// Puts bytes into a page, from byte `at` on. Bytes that would lie behind the page are left out.
 pub(crate) fn put(page: &mut Block, at: usize, bytes: &[u8]) {
     for (i, byte) in bytes.iter().enumerate() {
         let place = at.saturating_add(i);
@@ -45,7 +45,7 @@ pub(crate) fn u128_at(page: &Block, at: usize) -> u128 {
     value
 }
 
-/// Whether the bytes of a page from one on and before another are zero.
+/// Whether the bytes of a page from `from` on and before `end` are zero.
 pub(crate) fn are_zero(page: &Block, from: usize, end: usize) -> bool {
     for at in from..end {
         if byte(page, at) != 0 {

@@ -9,13 +9,13 @@ use std::alloc::{AllocError, Global};
 /// An entry of a checkpoint.
 #[derive(Clone, Copy, Debug, PartialEq, Eq)]
 pub enum Placed {
-    /// The address stands in a log block, in this one at this page; and whether it is dirty.
+    /// The address, the log block and page that have it, and whether it is dirty.
     InLog(u64, u32, u32, bool),
-    /// The address stands in this data block; and whether it is dirty. A group has one data block.
+    /// The address, the data block that has it, and whether it is dirty. A group has one data block.
     InData(u64, u32, bool),
 }
 
-/// What flash in format 1 has.
+/// The contents of flash in format 1.
 #[derive(Clone, Copy)]
 pub struct Old {
     /// The region of the checkpoint and of the log, 0 or 1.
@@ -24,13 +24,13 @@ pub struct Old {
     pub era: u8,
     /// How many records are put into a page.
     pub page: usize,
-    /// What the checkpoint holds.
+    /// The entries of the checkpoint.
     pub entries: &'static [Placed],
     /// The records of the log.
     pub log: &'static [Record],
 }
 
-/// The tag of the block that stands at a place.
+/// The tag of the block at a place.
 pub fn tag_at(block: u32, page: u32) -> u64 {
     u64::from(block)
         .saturating_mul(256)
@@ -39,7 +39,7 @@ pub fn tag_at(block: u32, page: u32) -> u64 {
 
 // ---- the records of a checkpoint
 
-/// The pages of a group that stand in its data block, or the dirty ones of them.
+/// The pages of a group that its data block has, or the dirty ones of them.
 fn set_of(geometry: &Geometry, entries: &[Placed], group: u64, dirty: bool) -> u128 {
     let p = u64::from(geometry.p);
     let mut pages: u128 = 0;
@@ -64,7 +64,7 @@ fn has_group(records: &[Record], wanted: u64) -> bool {
     false
 }
 
-/// The groups of which something stands in a data block.
+/// Adds a record for each group that has an address in a data block.
 fn push_groups(
     geometry: &Geometry,
     entries: &[Placed],
@@ -87,7 +87,7 @@ fn push_groups(
     Ok(())
 }
 
-/// The addresses that stand in log blocks.
+/// Adds a record for each address that stands in a log block.
 fn push_pages(entries: &[Placed], records: &mut Vec<Record>) -> Result<(), AllocError> {
     for entry in entries {
         if let Placed::InLog(lba, block, page, dirty) = *entry {
@@ -101,7 +101,7 @@ fn push_pages(entries: &[Placed], records: &mut Vec<Record>) -> Result<(), Alloc
     Ok(())
 }
 
-/// The records of a checkpoint, those of groups first.
+/// The records of a checkpoint, the records of groups first.
 fn records_of(
     alloc: Global,
     geometry: &Geometry,
@@ -120,7 +120,7 @@ fn count_of(records: &[Record]) -> u32 {
     u32::try_from(records.len()).unwrap_or(u32::MAX)
 }
 
-/// Programs the next page of an erase block. False where there is none.
+/// Programs the next page of an erase block. False if there is none.
 fn program(rig: &mut MemRig, block: u32, bytes: &Block, spare: &Spare) -> bool {
     if block >= rig.flash_blocks() {
         return false;
@@ -147,7 +147,7 @@ fn spare_of(kind: u8, era: u8, number: u64) -> Spare {
     spare
 }
 
-/// The address of which a block stands at a place, by these records.
+/// The address whose block stands at a place, by these records.
 fn address_at(geometry: &Geometry, records: &[Record], at: Place) -> Option<u64> {
     for change in records {
         match *change {
@@ -190,7 +190,7 @@ fn fill(rig: &mut MemRig, geometry: &Geometry, records: &[Record], block: u32) -
     true
 }
 
-/// Whether something stands in an erase block by these records.
+/// Whether any block stands in an erase block by these records.
 fn stands_in(records: &[Record], wanted: u32) -> bool {
     for change in records {
         match *change {
@@ -202,7 +202,7 @@ fn stands_in(records: &[Record], wanted: u32) -> bool {
     false
 }
 
-/// Programs the erase blocks of the pool in which something stands by these records.
+/// Programs the erase blocks of the pool in which any block stands by these records.
 fn put_blocks(rig: &mut MemRig, geometry: &Geometry, records: &[Record]) -> bool {
     for block in geometry.first_pool()..geometry.blocks() {
         if stands_in(records, block) && !fill(rig, geometry, records, block) {
@@ -236,7 +236,7 @@ impl Region {
         program(rig, block, &page, &spare_of(kind, self.era, u64::from(i)))
     }
 
-    /// Programs pages of these records, each of so many. Says how many pages; none where they have no room.
+    /// Programs pages of these records, `most` on each. Answers how many pages; `None` if they have no room.
     fn put_all(
         &self,
         alloc: Global,
@@ -261,7 +261,7 @@ impl Region {
     }
 }
 
-/// Programs the seal over so many map pages with so many records.
+/// Programs the seal over `pages` map pages with `records` records.
 fn put_seal(rig: &mut MemRig, geometry: &Geometry, old: &Old, pages: u32, records: u32) -> bool {
     let header = Header {
         format: 1,
@@ -326,8 +326,8 @@ fn put_log(
     Ok(pages.is_some())
 }
 
-/// Makes the media anew, with these contents. False where they have no room. Each page in which something stands
-/// has the block of its address with the tag of its place.
+/// Makes the media anew, with these contents. False if they have no room. Each page that an entry or a record names has
+/// the block of its address, with the tag of its place.
 pub fn made_old(
     alloc: Global,
     rig: &mut MemRig,

@@ -1,9 +1,9 @@
-//! Pages and seals of formats 1 and 2, spelled and read by plain programs, and flash with contents in format 1. Tests
-//! stand on this crate, and no layer.
+//! Pages and seals of formats 1 and 2, spelled and read by plain programs, and flash with contents in format 1. Only
+//! tests use this crate; no layer does.
 //!
-//! The programs go by the tables of `docs/FORMATS.md`: each number is put at its byte, and each byte that is named
-//! there is looked at. `record_codec` compares spellings instead, and has contracts; of these it is proved only that
-//! they are safe and return. They spell any values, those too that no page may have.
+//! The programs follow the tables of `docs/FORMATS.md`: each number is put at its byte, and each byte that is named
+//! there is looked at. `record_codec` compares spellings instead, and has contracts; these programs are proved only to
+//! be safe and to return. They spell any values, even values that no page may have.
 #![tactic(auto)]
 
 mod bytes;

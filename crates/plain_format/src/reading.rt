@@ -15,12 +15,12 @@ fn kind_of(byte: u8) -> Option<PageKind> {
     }
 }
 
-/// Whether a page of this kind may have so many records, by a header that doesn't tell the width of them.
+/// Whether a page of this kind may have `count` records, by a header that doesn't say how wide they are.
 fn may_have(kind: PageKind, count: u32) -> bool {
     kind == PageKind::Seal || 1 <= count && count <= 127
 }
 
-/// The header of a page of records or of a seal, where the page begins with one.
+/// The header of a page of records or of a seal, if the page begins with one.
 pub fn plain_header(page: &Block) -> Option<Header> {
     let format = byte(page, 8);
     let era = byte(page, 10);
@@ -44,7 +44,7 @@ pub fn plain_header(page: &Block) -> Option<Header> {
     })
 }
 
-/// Which bytes of a page are a record: the first, and how many.
+/// The bytes of a page that are a record: the first byte, and how many bytes.
 #[derive(Clone, Copy)]
 struct Part {
     at: usize,
@@ -56,12 +56,12 @@ impl Part {
         byte(page, self.at.saturating_add(at))
     }
 
-    /// The number in eight bytes from one on.
+    /// The number in eight bytes, from byte `at` of the record on.
     fn number(&self, page: &Block, at: usize) -> u64 {
         u64_at(page, self.at.saturating_add(at))
     }
 
-    /// The set in sixteen bytes from one on, or in eight.
+    /// The set in sixteen bytes or in eight, from byte `at` of the record on.
     fn set(&self, page: &Block, at: usize) -> u128 {
         if self.bytes == 48 {
             u128_at(page, self.at.saturating_add(at))
@@ -70,7 +70,7 @@ impl Part {
         }
     }
 
-    /// Whether the bytes from one on and before another are zero.
+    /// Whether the bytes from `from` on and before `end` are zero.
     fn are_zero(&self, page: &Block, from: usize, end: usize) -> bool {
         are_zero(
             page,
@@ -84,7 +84,7 @@ impl Part {
         u32_at(page, self.at.saturating_add(4))
     }
 
-    /// The address or the group in bytes 8 to 15, where the rest but for the kind is zero.
+    /// The address or the group in bytes 8 to 15, if all other bytes but the kind are zero.
     fn lone(&self, page: &Block) -> Option<u64> {
         if self.are_zero(page, 1, 8) && self.are_zero(page, 16, self.bytes) {
             Some(self.number(page, 8))
@@ -127,7 +127,7 @@ impl Part {
         })
     }
 
-    /// The record, where there is one.
+    /// The record, if there is one.
     fn record(&self, page: &Block) -> Option<Record> {
         match self.byte(page, 0) {
             1 => self.set_page(page),
@@ -140,7 +140,7 @@ impl Part {
     }
 }
 
-/// Whether a page of this kind has records like this one.
+/// Whether a page of this kind may have a record like this one.
 fn goes_on(kind: PageKind, change: &Record) -> bool {
     match *change {
         Record::SetPage { .. } | Record::SetGroup { .. } => kind != PageKind::Seal,
@@ -148,8 +148,8 @@ fn goes_on(kind: PageKind, change: &Record) -> bool {
     }
 }
 
-/// Puts the records of a page with this header to the front of `out`, for a cache with `p` pages in an erase block.
-/// False where they are none.
+/// Puts the records of a page with this header at the front of `out`, for a cache with `p` pages in an erase block.
+/// False if the page has no such records.
 pub fn plain_records(page: &Block, header: &Header, p: u32, out: &mut [Record; 127]) -> bool {
     let bytes = record_bytes(header.format, p);
     let count = header.count as usize;
@@ -185,7 +185,7 @@ fn totals_of(page: &Block) -> Totals {
     }
 }
 
-/// The header and the numbers of a seal, with its totals where its format is 2, where the page is one.
+/// The header and the numbers of a seal, with its totals if its format is 2. `None` if the page is no seal.
 pub fn plain_seal(page: &Block) -> Option<(Header, Seal, Option<Totals>)> {
     let header = plain_header(page)?;
     if header.kind != PageKind::Seal || !are_zero(page, 72, 4096) {

@@ -2,12 +2,12 @@ use crate::bytes::put;
 use ft_base::{Block, Record, zero_block};
 use record_codec::{Header, PageKind, Seal, Totals};
 
-/// The bytes of a record, in a page of this format of a cache with `p` pages in an erase block.
+/// How many bytes a record has, in a page of this format of a cache with `p` pages in an erase block.
 pub(crate) fn record_bytes(format: u8, p: u32) -> usize {
     if format == 2 && p > 64 { 48 } else { 32 }
 }
 
-/// Where record `i` begins.
+/// The byte at which record `i` begins.
 pub(crate) fn record_at(bytes: usize, i: usize) -> usize {
     bytes.saturating_mul(i).saturating_add(32)
 }
@@ -41,7 +41,7 @@ fn put_set(page: &mut Block, at: usize, bytes: usize, pages: u128) {
     put(page, at, if bytes == 48 { &all[..] } else { &all[8..] });
 }
 
-/// Puts the two sets of a record of so many bytes.
+/// Puts the two sets of a record of `bytes` bytes.
 fn put_sets(page: &mut Block, at: usize, bytes: usize, present: u128, dirty: u128) {
     let second = if bytes == 48 { 32 } else { 24 };
     put_set(page, at.saturating_add(16), bytes, present);
@@ -83,7 +83,7 @@ pub fn spelled_page(header: &Header, p: u32, changes: &[Record]) -> Block {
     page
 }
 
-/// The seal of a header and its numbers, and of the totals where the header's format is 2.
+/// The seal of a header and its numbers, and of the totals if the header's format is 2.
 pub fn spelled_seal(header: &Header, seal: &Seal, totals: &Totals) -> Block {
     let mut page = zero_block();
     put_header(&mut page, header);

@@ -1,6 +1,6 @@
-//! Worked examples of raw flash: what the bytes of a page say of it.
+//! Worked examples of raw flash: the meaning of a page's bytes.
 //!
-//! No layer stands on this crate; it has tests alone.
+//! No layer uses this crate; it has only tests.
 #![tactic(auto)]
 
 #[cfg(test)]

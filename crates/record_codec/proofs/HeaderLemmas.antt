@@ -31,7 +31,7 @@ no_any_header bytes h there not = by_answer (read_header bytes) refl
     by_answer None is = refl
     by_answer (Some w) is = absurd (not (subst (λ (k : Header). IsHeaderOf bytes k) (sym (any_header_there bytes w is) ∙ sym there) (any_header_spelled bytes w is)))
 
--- a header is one of a page of records where its kind is
+-- a header is the header of a page of records if its kind is
 pub page_header_of : (bytes : List ℕ) (h : Header) (kind there : Bool) → kind ≡ true → kind ≡ is_log_or_map h.kind → IsTrue there ↔ IsHeaderOf bytes h → IsTrue there ↔ IsPageHeaderOf bytes h
 page_header_of bytes h kind there t is tells = (
   λ u. let head = tells.0 u in record { spelled = head.spelled; header = and_from _ _ head.header (sym is ∙ t) },

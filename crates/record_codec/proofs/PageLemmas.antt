@@ -182,11 +182,11 @@ records_parts wide (r ∷ rs) bytes (suc i) d within is =
     sym (drop-take size (size * length rs) bytes) ∙ ap (λ n. drop size (take n bytes)) (bytes-suc wide (length rs)) ∙ ap (drop size) is ∙ drop-record wide r (flat_map (spelled_record wide) rs) in
     ap (λ n. take size (drop n bytes)) (sym (bytes-suc wide i)) ∙ ap (take size) (sym (drop-drop (size * i) size bytes)) ∙ records_parts wide rs (drop size bytes) i d (omega arith) rest
 
--- what stands behind the header
+-- the bytes behind the header
 behind_header : (wide : Bool) (page : List ℕ) (i : ℕ) → record_line wide i page ≡ take (record_bytes wide) (drop (record_bytes wide * i) (drop 32 page)) ++ zeros (48 - record_bytes wide)
 behind_header wide page i = ap (λ s. take (record_bytes wide) s ++ zeros (48 - record_bytes wide)) (sym (drop-drop (record_bytes wide * i) 32 page))
 
--- no records of which the i-th is not the i-th line
+-- no records whose i-th is not the i-th line
 line_spelled : (wide : Bool) (kind : PageKind) (rs : List Record) (page : List ℕ) (i : ℕ) (d : Record) → i < length rs → BeginsWith wide kind rs (drop 32 page)
     → (read_line wide (record_line wide i page) ≡ Some (get_or rs i d)) × (goes_on kind (get_or rs i d) ≡ true)
 line_spelled wide kind rs page i d within begins =
@@ -237,11 +237,11 @@ begins_more wide kind page out i r good within reads test t begins =
 
 -- ---- the page
 
--- what is behind so many records is zero
+-- the bytes behind this many records are zero
 abbrev pub RestIsZero : Bool → ℕ → List ℕ → Type 0
 RestIsZero wide n bytes = drop (32 + record_bytes wide * n) bytes ≡ zeros (4096 - (32 + record_bytes wide * n))
 
--- a page, by its header, its records and what is behind them
+-- a page, by its header, its records and the bytes behind them
 pub page_from : (p : ℕ) (bytes : List ℕ) (h : Header) (rs : List Record) → IsPageHeaderOf bytes h → h.count ≡ length rs → length rs ≤ most_records_of (is_wide h.format p) → BeginsWith (is_wide h.format p) h.kind rs (drop 32 bytes)
     → RestIsZero (is_wide h.format p) (length rs) bytes → IsPage p bytes h rs
 page_from p bytes h rs head count few begins rest =
@@ -283,17 +283,17 @@ count_low Log n t u = leb-true _ _ (and_parts _ _ u).1
 count_low Map n t u = leb-true _ _ (and_parts _ _ u).1
 count_low SealPage n t u = absurd (cc)
 
--- so many records as the header says
+-- as many records as the header says
 pub counted : (bytes : List ℕ) (h : Header) (out : List Record) → IsPageHeaderOf bytes h → length out ≡ 127 → h.count ≡ length (take h.count out)
 counted bytes h out head long =
     let p = and_parts _ _ head.header in
     let low : h.count ≤ 127 = count_low h.kind h.count p.1 (and_parts _ _ p.0).1 in
     sym (length-take-le h.count out (omega arith))
 
--- ---- what the last tests say
+-- ---- the meaning of the last tests
 
 module _ (p : ℕ) (bytes : List ℕ) (h : Header) where
-  -- a page of this width, whose rest begins here and is zero where the test says so
+  -- a page of this width, whose rest begins here, and is zero if the test says so
   pub record IsTested (wide : Bool) (at : ℕ) (answer : Bool) : Type 0 where
     pub width : wide ≡ is_wide h.format p
     pub place : at ≡ 32 + record_bytes wide * h.count

@@ -11,7 +11,7 @@ use Rattle.cache_model.proofs.ReadingLemmas.{read_is, read_again}
 use Rattle.cache_model.proofs.SpellingLemmas.{record-again}
 use Rattle.record_codec.specs.Lines.{spelled_line, spelled_set, read_line}
 
--- what is read, by what the tests say
+-- the record that is read, if the tests pass
 pub line_reads : (line : List ℕ) (wide : Bool) (r : Record) (same : Bool) → r ≡ record_in wide line → same ≡ bytes_eq (spelled_line wide r) line → has_widths wide r ≡ true → read_line wide line ≡ cond (same && is_sound wide r) (Some r) None
 unfolding read_line
 line_reads line wide r same there s t =
@@ -52,7 +52,7 @@ sets_put wide old now now' present dirty long put put' =
 
 -- ---- reading it
 
--- what is behind a record isn't looked at
+-- the bytes behind a record aren't looked at
 record_in-line : (wide : Bool) (r : Record) (rest : List ℕ) → record_in wide (spelled_record wide r ++ rest) ≡ record_in wide (take (record_bytes wide) (spelled_record wide r ++ rest))
 record_in-line true (SetPage lba place dirty) rest = refl
 record_in-line true (Remove lba) rest = refl

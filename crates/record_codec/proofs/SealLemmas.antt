@@ -1,4 +1,4 @@
--- Seals by their header, the line of their numbers, and what is behind it.
+-- Seals by their header, the line of their numbers, and the bytes behind it.
 use Rattle.std.proofs.Common.{◌≡◌, ◌↔◌, ℕ, ◌+◌, ◌^◌, ◌<◌, ◌≤◌, ◌==◌, ◌||◌, nat_le, Bool, true, false, ◌&&◌, cond, List, ◌++◌, length, take, drop, Some, None, Option, MatchOption, IsTrue, refl, sym, ◌∙◌, ap, ap₂, subst, arith, append_assoc, le-leb, leb-true, lt-ltb}
 use Rattle.std.specs.Int.{Width, w32, w64, byte_len, from_be_bytes, to_be_bytes}
 use Rattle.std.specs.Str.{bytes_eq}
@@ -68,12 +68,12 @@ seal_count SealPage count t low = lt-ltb _ _ low
 pub seal_header : (h : Header) → is_format h.format ≡ true → is_seal h.kind ≡ true → h.era ≤ 2 → h.sequence < 2 ^ 32 → h.count < 2 ^ 32 → (header_in_range h && is_seal h.kind) ≡ true
 seal_header h format kind era sequence count = and_from _ _ (and_from _ _ (and_from _ _ (and_from _ _ format (le-leb _ _ era)) (lt-ltb _ _ sequence)) (seal_count h.kind h.count kind count)) kind
 
--- a seal that has its totals, or none, is of one of the formats
+-- a seal whose totals suit its format is of one of the formats
 format_of : (format : ℕ) (totals : Option Totals) → totals_in_range format totals ≡ true → is_format format ≡ true
 format_of format None t = or_left (format == 1) (format == 2) t
 format_of format (Some u) t = or_right (format == 1) (format == 2) (and_parts _ _ (and_parts _ _ t).0).0
 
--- what the tests say together
+-- the meaning of the tests together
 pub has_seal_is : (bytes front numbers line line' : List ℕ) (h : Header) (seal : Seal) (totals : Option Totals) (same same' heads has zero : Bool) → front ≡ spelled_header h → numbers ≡ numbers_line seal totals → line ≡ take 32 bytes
     → line' ≡ take 48 (drop 32 bytes) ++ zeros 0 → same ≡ bytes_eq front line → same ≡ true → same' ≡ bytes_eq numbers line' → same' ≡ true → heads ≡ (is_seal h.kind && nat_le h.era 2) → heads ≡ true
     → has ≡ totals_in_range h.format totals → has ≡ true → h.sequence < 2 ^ 32 → h.count < 2 ^ 32 → seal_in_range seal ≡ true → (IsTrue zero ↔ (drop 80 bytes ≡ zeros 4016)) → IsTrue zero ↔ IsSealOf bytes h seal totals
@@ -91,14 +91,14 @@ has_seal_is bytes front numbers line line' h seal totals same same' heads has ze
       λ is. rest.1 (parts_of bytes h seal totals is.spelled).behind,
     )
 
--- where the line of the numbers is another one, there is no such seal
+-- if the line of the numbers is another one, there is no such seal
 pub other_numbers : (bytes numbers line : List ℕ) (h : Header) (seal : Seal) (totals : Option Totals) (same : Bool) → numbers ≡ numbers_line seal totals → line ≡ take 48 (drop 32 bytes) ++ zeros 0 → same ≡ bytes_eq numbers line → same ≡ false
     → IsSealOf bytes h seal totals → ⊥
 other_numbers bytes numbers line h seal totals same spells at test f is =
     let equal : numbers ≡ line = spells ∙ sym (at ∙ append-nil (take 48 (drop 32 bytes)) ∙ (parts_of bytes h seal totals is.spelled).numbers) in
     both_ways same f (test ∙ (bytes_eq-Decides numbers line).1 equal)
 
--- the totals are in range, as the format tells them
+-- the totals are in range, if the format has them
 pub told_in_range : (format : ℕ) (t : Totals) → is_format format ≡ true → FitsCounts (totals_told format t) → totals_in_range format (totals_told format t) ≡ true
 told_in_range format t is fits = by_format (format == 1) refl is fits
   where

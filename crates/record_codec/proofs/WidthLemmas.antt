@@ -1,4 +1,4 @@
--- Where records stand in a page, in either width.
+-- The places of records in a page, in either width.
 use Rattle.std.proofs.Common.{◌≡◌, ℕ, suc, ◌+◌, ◌*◌, ◌^◌, ◌≤◌, Bool, true, false, refl, arith}
 use Rattle.cache_model.specs.Spelling.{most_records_of, page_limit, record_bytes, set_limit}
 
@@ -14,7 +14,7 @@ pub limit_few : (wide : Bool) → page_limit wide ≤ 128
 limit_few true = omega arith
 limit_few false = omega arith
 
--- a set of pages takes a bit for each
+-- a set of pages takes a bit for each page
 pub limits_same : (wide : Bool) → 2 ^ page_limit wide ≡ set_limit wide
 limits_same true = refl
 limits_same false = refl

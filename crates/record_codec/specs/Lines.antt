@@ -45,7 +45,7 @@ pub record BeginsWith (wide : Bool) (kind : PageKind) (records : List Record) (b
 
 -- ---- a seal
 
--- the totals of a seal, where its format has them
+-- the totals of a seal, if its format has them
 abbrev pub totals_told : ℕ → Totals → Option Totals
 totals_told format t = if format == 1 then None else Some t
 

@@ -103,8 +103,7 @@ fn second_set(line: &[u8; 48], wide: bool) -> u128
     }
 }
 
-/// The record that a line would be. A line of no kind is taken for one of the last, whose spelling it
-/// isn't.
+/// The record that a line would be. A line of no kind is taken for one of the last kind, whose spelling it isn't.
 fn record_in(line: &[u8; 48], wide: bool) -> Record
     ensures found { result ≡ record_in wide line.now }
     ensures fits { FitsLine wide result }
@@ -132,14 +131,14 @@ fn record_in(line: &[u8; 48], wide: bool) -> Record
     }
 }
 
-/// Whether a set of pages takes no more bytes than a record has for it.
+/// Whether a set of pages fits the bytes that a record has for it.
 fn fits_set(pages: u128, wide: bool) -> bool
     ensures { result ≡ nat_lt pages (2 ^ page_limit wide) }
 {
     wide || pages < 1 << 64
 }
 
-/// Whether the pages of a record are those of an erase block, and its dirty pages are present ones.
+/// Whether the pages of a record fit an erase block, and its dirty pages are present.
 fn is_sound(change: &Record, wide: bool) -> bool
     ensures { result ≡ is_sound wide change.now }
 {
@@ -152,7 +151,7 @@ fn is_sound(change: &Record, wide: bool) -> bool
     }
 }
 
-/// Whether a page of this kind has records like this one.
+/// Whether a page of this kind may have a record like this one.
 pub fn goes_on(kind: PageKind, change: &Record) -> bool
     ensures { result ≡ goes_on kind change.now }
 {
@@ -166,7 +165,7 @@ pub fn goes_on(kind: PageKind, change: &Record) -> bool
     }
 }
 
-/// The record of a line: exactly where the line is that of a sound record.
+/// The record of a line. There is one exactly when the line spells a sound record.
 #[tactic(auto, using(crate::proofs::RecordLemmas::line_reads))]
 pub fn read_line(line: &[u8; 48], wide: bool) -> Option<Record>
     ensures { result ≡ line_read wide line.now }

@@ -7,7 +7,7 @@ use crate::line::{header_line, put_bytes, put_u32, u32_at};
 use cache_model::{Header, PageKind};
 use ft_base::Block;
 
-// What every page of records and every seal begins with.
+// The bytes with which every page of records and every seal begins.
 const MAGIC: [u8; 8] = *b"FTSCPAGE";
 
 // The kinds of a page.
@@ -27,7 +27,7 @@ fn kind_byte(kind: PageKind) -> u8
     }
 }
 
-/// The kind of a byte. One of no kind is taken for a seal, whose byte it isn't.
+/// The kind of a byte. A byte of no kind is taken for a seal, whose byte it isn't.
 fn kind_of(byte: u8) -> PageKind
     ensures { result ≡ kind_of byte }
 {
@@ -74,7 +74,7 @@ fn is_format(format: u8) -> bool
     format == 1 || format == 2
 }
 
-/// Whether the numbers are in their ranges: of a page of records, 1 to 127 of them; of a seal any number.
+/// Whether the numbers are in their ranges: a page of records counts 1 to 127 of them, and a seal any number.
 fn is_in_range(header: &Header) -> bool
     ensures { result ≡ header_in_range header.now }
 {
@@ -88,7 +88,7 @@ fn is_in_range(header: &Header) -> bool
     }
 }
 
-/// Whether a header is one of a page of records.
+/// Whether a header is the header of a page of records.
 fn is_log_or_map(header: &Header) -> bool
     ensures { result ≡ is_log_or_map header.now.kind }
 {
@@ -109,7 +109,7 @@ pub fn has_header(page: &Block, header: &Header) -> bool
     is_in_range(header)
 }
 
-/// Whether the page begins with this header, and it is one of a page of records.
+/// Whether the page begins with this header, and it is the header of a page of records.
 pub fn has_page_header(page: &Block, header: &Header) -> bool
     ensures { IsTrue result ↔ IsPageHeaderOf page.now.0 header.now }
 {
@@ -119,7 +119,7 @@ pub fn has_page_header(page: &Block, header: &Header) -> bool
     has_header(page, header)
 }
 
-/// The header of a page, of records or of a seal: exactly where the page begins with one.
+/// The header of a page of records or of a seal. There is one exactly when the page begins with it.
 pub fn read_header(page: &Block) -> Option<Header>
     ensures value { result ≡ read_header page.now.0 }
     ensures grammar { MatchOption result ((h : HeaderValue) → ¬ IsHeaderOf page.now.0 h) (λ h. IsHeaderOf page.now.0 h) }
@@ -131,7 +131,7 @@ pub fn read_header(page: &Block) -> Option<Header>
     None
 }
 
-/// The header of a page of records: exactly where the page begins with one.
+/// The header of a page of records. There is one exactly when the page begins with it.
 pub fn read_page_header(page: &Block) -> Option<Header>
     ensures value { result ≡ read_page_header page.now.0 }
     ensures grammar { MatchOption result ((h : HeaderValue) → ¬ IsPageHeaderOf page.now.0 h) (λ h. IsPageHeaderOf page.now.0 h) }

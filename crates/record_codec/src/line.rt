@@ -80,7 +80,7 @@ pub fn header_line(page: &Block) -> [u8; 32]
     line
 }
 
-/// So many bytes of a page, from byte `at` on, and zero bytes behind them.
+/// `count` bytes of a page, from byte `at` on, and zero bytes behind them.
 pub fn line_at(page: &Block, at: usize, count: usize) -> [u8; 48]
     requires page { at + count ≤ 4096 }
     requires line { count ≤ 48 }

@@ -56,9 +56,8 @@ fn put_record(out: &mut Block, wide: bool, i: usize, change: &Record)
     put_part(out, record_at(wide, i), &line[..record_bytes(wide)]);
 }
 
-/// Reads the records of a page with this header to the front of `out`, for a cache with `p` pages in an
-/// erase block. False exactly where the page isn't that of the header and of any records; then `out` may
-/// have some of them.
+/// Reads the records of a page with this header to the front of `out`, for a cache with `p` pages in an erase block. It
+/// answers false exactly when the page isn't one of the header and of any records. Then `out` may have some records.
 pub fn read_records(page: &Block, header: &Header, p: u32, out: &mut [Record; 127]) -> bool
     ensures read { OnTrue result (IsPage p page.now.0 header.now (take header.now.count out.new)) }
     ensures outside { OnFalse result ((rs : List RecordValue) → ¬ IsPage p page.now.0 header.now rs) }
@@ -79,7 +78,7 @@ pub fn read_records(page: &Block, header: &Header, p: u32, out: &mut [Record; 12
     is_zero_from(page, record_at(wide, count))
 }
 
-/// Reads so many records.
+/// Reads `count` records.
 fn read_lines(
     page: &Block,
     wide: bool,
@@ -103,7 +102,7 @@ fn read_lines(
     true
 }
 
-/// Reads record `i`: exactly where there is a sound one.
+/// Reads record `i`. There is one exactly when its line spells a sound record.
 fn read_record(page: &Block, wide: bool, i: usize) -> Option<Record>
     requires { i < most_records_of wide }
     ensures { result ≡ line_read wide (record_line wide i page.now.0) }

@@ -45,7 +45,7 @@ fn numbers_in(line: &[u8; 48]) -> Seal
     }
 }
 
-/// The totals that a line would be, where its seal has this format.
+/// The totals that a line would be, if its seal has this format.
 fn totals_in(line: &[u8; 48], format: u8) -> Option<Totals>
     ensures { result ≡ totals_told format (counts_in line.now) }
 {
@@ -58,14 +58,14 @@ fn totals_in(line: &[u8; 48], format: u8) -> Option<Totals>
     )
 }
 
-/// The totals, where a seal of this format has them.
+/// The totals, if a seal of this format has them.
 fn told(format: u8, totals: Totals) -> Option<Totals>
     ensures { result ≡ totals_told format totals }
 {
     if format == 1 { None } else { Some(totals) }
 }
 
-/// Writes the seal of a header, its numbers, and the totals, where the header's format is 2.
+/// Writes the seal of a header, its numbers, and the totals if the header's format is 2.
 pub fn write_seal(out: &mut Block, header: &Header, seal: &Seal, totals: &Totals)
     requires format { IsTrue (is_format header.now.format) }
     requires kind { IsTrue (is_seal header.now.kind) }
@@ -79,7 +79,7 @@ pub fn write_seal(out: &mut Block, header: &Header, seal: &Seal, totals: &Totals
     put_zeros(out, 80);
 }
 
-/// Whether a seal of this format has totals, or none.
+/// Whether these totals suit a seal of this format: format 2 has totals, and format 1 has none.
 fn has_totals(format: u8, totals: &Option<Totals>) -> bool
     requires { FitsCounts totals.now }
     ensures { result ≡ totals_in_range format totals.now }
@@ -90,7 +90,7 @@ fn has_totals(format: u8, totals: &Option<Totals>) -> bool
     }
 }
 
-/// Whether the header may be one of a seal.
+/// Whether the header may begin a seal.
 fn heads_seal(header: &Header) -> bool
     ensures { result ≡ (is_seal header.now.kind && nat_le header.now.era 2) }
 {
@@ -121,8 +121,8 @@ fn has_seal(page: &Block, header: &Header, seal: &Seal, totals: &Option<Totals>)
     is_zero_from(page, 80)
 }
 
-/// The header and the numbers of a seal, with its totals where its format is 2: exactly where the page is
-/// one.
+/// The header and the numbers of a seal, with its totals if its format is 2. They are there exactly when the page is a
+/// seal.
 pub fn read_seal(page: &Block) -> Option<(Header, Seal, Option<Totals>)>
     ensures value { result ≡ seal_read page.now.0 }
     ensures grammar { MatchOption result ((h : HeaderValue) (s : SealValue) (t : Option TotalsValue) → ¬ IsSealOf page.now.0 h s t)

@@ -9,7 +9,7 @@ pub fn is_wide(format: u8, p: u32) -> bool
     format == 2 && p > 64
 }
 
-/// The bytes of a record.
+/// How many bytes a record has.
 pub fn record_bytes(wide: bool) -> usize
     ensures number { result ≡ record_bytes wide }
     ensures most { result ≤ 48 }
@@ -17,7 +17,7 @@ pub fn record_bytes(wide: bool) -> usize
     if wide { 48 } else { 32 }
 }
 
-/// A page has at most so many records.
+/// The most records that a page has.
 pub fn most_records(wide: bool) -> usize
     ensures { result ≡ most_records_of wide }
 {
@@ -31,7 +31,7 @@ pub fn page_limit(wide: bool) -> u32
     if wide { 128 } else { 64 }
 }
 
-/// The byte of a page where record `i` begins, or what is behind so many records.
+/// The byte of a page at which record `i` begins; it is also the first byte behind `i` records.
 #[tactic(auto, using(crate::proofs::WidthLemmas::within_page, crate::proofs::WidthLemmas::most_few))]
 pub fn record_at(wide: bool, i: usize) -> usize
     requires { i ≤ most_records_of wide }

@@ -24,11 +24,11 @@ use Rattle.op_log.specs.Refusals.{IsRefusal, open_failed, open_lost}
 use Rattle.checkpoint.proofs.ListsLemmas.{take-pages}
 use Rattle.recovery.proofs.RefusalLemmas.{bind_refused, then_refused}
 
--- the map pages of a checkpoint, from no entries on
+-- the map pages of a checkpoint, applied to these entries
 abbrev pub maps_applied : Geometry → (Place → Page) → ℕ × Complete → Entries → Result Entries Refusal
 maps_applied g page c m = after_pages g Map c.1.stamp (checkpoint_at g c.0) 0 (pages_from page (checkpoint_at g c.0) 0 c.1.pages) m
 
--- and the pages of its log
+-- the pages of its log, applied to these entries
 abbrev pub log_applied : Geometry → (Place → Page) → ℕ × Complete → Entries → Result Entries Refusal
 log_applied g page c m = after_pages g Log c.1.stamp (log_at g c.0) 0 (log_region g page c.0) m
 
@@ -41,7 +41,7 @@ module _ (g : Geometry) (page : Place → Page) (c : ℕ × Complete) (within : 
   maps_refused e is = subst (λ r. IsRefusal g e r) (sym all_parts) (bind_refused g e (maps_applied g page c none >>= counted g c) (log_applied g page c) (bind_refused g e (maps_applied g page c none) (counted g c) is))
 
   module _ (m : Entries) (maps : maps_applied g page c none ≡ Ok m) where
-    -- the entries aren't those that the seal says
+    -- the entries are not as many as the seal says
     pub miscounted : (seal : Place) → seal ≡ checkpoint_at g c.0 c.1.pages → are_totals c.1.seal.totals m ≡ false → replayed g page c ≡ Err (damaged seal)
     miscounted seal here other =
         all_parts
@@ -87,7 +87,7 @@ module _ (g : Geometry) (page : Place → Page) (c : ℕ × Complete) (there : c
       unfolding load
       places_whole is = ap (λ r. r >>= λ n. all_whole page (entries n) n) entries_are ∙ ap (λ (p : Place → Page). all_whole p (entries m) m) (sym pages') ∙ is
 
--- a call that was refused after others that only read
+-- a call that failed after others that only read
 pub reads_refused : (U : Type 0) {T : Type 0} (a b c : State) (r : Result T OpenError) (e : OpenError) → IsErrAnd r (λ x. x ≡ e) → ReadsFlash a b false false → ReadsFlash b c (open_failed {T = U} (Err e)) (open_lost {T = U} (Err e)) → ReadsFlash a c (open_failed r) (open_lost r)
 reads_refused U a b c (Ok v) e is first later = absurd is
 reads_refused U {T} a b c (Err x) e is first later = subst (λ (y : OpenError). ReadsFlash a c (open_failed {T = T} (Err y)) (open_lost {T = T} (Err y))) (sym is) (told e (reads_then a b c _ _ first later))
@@ -101,9 +101,9 @@ reads_refused U {T} a b c (Err x) e is first later = subst (λ (y : OpenError). 
     told PowerLost is = is
     told OutOfMemory is = is
 
--- ---- its buckets
+-- ---- the buckets of the map
 
--- from an empty map on
+-- the buckets stay few, if loading begins with an empty map
 pub few_loaded : (empty map : MapValue) → empty.entries ≡ no_entries → empty.spare_pages ≡ 0 → empty.spare_groups ≡ 0 → empty.buckets ≡ 0 → empty.group_buckets ≡ 0 → KeepsFewBuckets empty map → HasFewBuckets map
 few_loaded empty map nothing pages groups buckets group_buckets kept =
     kept.few (subst (λ m. IsMap empty.geometry m) (sym nothing) (no_entries-map empty.geometry)) (few_new empty pages groups buckets group_buckets)

@@ -31,7 +31,8 @@ use Rattle.recovery.proofs.RefusalLemmas.{test_refused}
 
 -- ---- the addresses, in the order of the pages
 
--- the addresses whose pages have numbers below i are in the list, and a map that lacks as many as there are has all others
+-- the addresses whose pages have numbers below i are in the list; and a map that lacks as many addresses as the list
+-- has has all others
 pub record Gathered (g : Geometry) (m : Entries) (addresses : List ℕ) (i : ℕ) : Type 0 where
   pub each : (a : ℕ) (e : Entry) → get m a ≡ Some e → number_of g e.place < i → Contains addresses a
   pub left : Entries
@@ -116,14 +117,14 @@ gathered_past g m addresses i o so here is =
 pub gathered_all : (g : Geometry) (m : Entries) (addresses : List ℕ) (numbers i : ℕ) → AreNumbered g m numbers → numbers ≤ i → Gathered g m addresses i → HasAddresses m addresses
 gathered_all g m addresses numbers i all past so a e held = let low = all a e held in so.each a e held (omega (arith, low, past))
 
--- and so they are once they are sorted
+-- the addresses are in the list after it is sorted
 pub has_sorted : (m : Entries) (addresses given sorted items : List ℕ) → given ≡ addresses → IsPermutation given sorted → items ≡ sorted
     → HasAddresses m addresses → HasAddresses m items
 has_sorted m addresses given sorted items from moved is has a e held =
     subst (λ (l : List ℕ). Contains l a) (sym is)
     (Contains-permutation given sorted a moved (subst (λ (l : List ℕ). Contains l a) (sym from) (has a e held)))
 
--- what stands in a list whose items were written over by as many others
+-- the items of a list that was overwritten by equally many items
 pub written_back : (items sorted rest : List ℕ) (n : ℕ) → items ≡ take n (sorted ++ rest) → length sorted ≡ n → items ≡ sorted
 written_back items sorted rest n is len = is ∙ take_at sorted rest n len
 
@@ -176,9 +177,9 @@ module _ (page : Place → Page) (m : Entries) (addresses : List ℕ) (i d : ℕ
       no_value : (e : Entry) → None ≡ Some (place_and_mark e) → ⊥
       no_value e is = cc
 
--- ---- what is answered
+-- ---- the answer
 
--- where all before an address are whole, its own page decides
+-- if all pages before the page of an address are whole, its own page decides
 module _ (page : Place → Page) (x : Entries) (a : ℕ) (v : Entry) where
   decided : (es : List (ℕ × Entry)) → is_sorted nat_cmp es ≡ true → AllByRecursion (λ e. e.0 < a → is_whole (page e.1.place) ≡ true) es → find nat_cmp a es ≡ Some v → (r : Result Entries Refusal) × (all_whole page es x ≡ cond (is_whole (page v.place)) r (Err (damaged v.place)))
   decided [] sorted before is = absurd (cc)
@@ -202,7 +203,7 @@ module _ (page : Place → Page) (m : Entries) (addresses : List ℕ) (has : Has
       whole_at a there = All-contains (IsWholeAt page m) addresses a (All-from_all_within (IsWholeAt page m) addresses (AllWithin-upto (IsWholeAt page m) addresses 0 i (length addresses) past looked.whole)) there
 
   module _ (up : IsNonDecreasing addresses) (d : ℕ) (within : i < length addresses) (at : Place) (dirty : Bool) (is : Some (at, dirty) ≡ option_map place_and_mark (get m (get_or addresses i d))) where
-    -- those below the address stand before it
+    -- the addresses below this one stand before it
     whole_below : (a : ℕ) (e : Entry) → get m a ≡ Some e → a < get_or addresses i d → is_whole (page e.place) ≡ true
     whole_below a e held low =
         let there = has a e held in

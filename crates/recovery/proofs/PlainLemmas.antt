@@ -19,7 +19,7 @@ use Rattle.recovery.proofs.LoadLemmas.{maps_applied, log_applied, all_parts, cou
 
 -- ---- a region
 
--- the pages below i are map pages with so many records, and those from there on are left
+-- the pages below i are map pages with this many records, and the pages from there on are left
 pub record MapsSoFar (stamp : Stamp) (at : ℕ → Place) (page : Place → Page) (n i count : ℕ) : Type 0 where
   pub same : sealed_from stamp 0 0 (pages_from page at 0 n) ≡ sealed_from stamp i count (pages_from page at i (n - i))
   pub few : count ≤ 127 * i
@@ -74,7 +74,7 @@ pub step_there : (g : Geometry) (kind : PageKind) (stamp : Stamp) (i : ℕ) (at 
 step_there g kind stamp i at p m h left head all =
     ap (option_map (λ h. ok_or (option_and_then (λ changes. after_all g changes m) (said (read_records g.p h) p)) (damaged at))) (sym head) ∙ ap (λ o. Some (ok_or o (damaged at))) all
 
--- what the program says of a page is its step
+-- the answer of the program for a page is the page's step
 pub step_answers : (g : Geometry) (kind : PageKind) (stamp : Stamp) (i : ℕ) (place at : Place) (page : Place → Page) (p : Page) (own : Geometry) (m new : Entries) (h : Header) (b answer : Bool) → at ≡ place
     → p ≡ page at → own ≡ g → Some h ≡ header_at kind stamp i p → option_and_then (λ changes. after_all own changes m) (said (read_records g.p h) p) ≡ cond b (Some new) None → b ≡ answer
     → page_step g kind stamp i place (page place) m ≡ Some (ok_or (cond answer (Some new) None) (damaged place))
@@ -100,7 +100,7 @@ module _ (g : Geometry) (page : Place → Page) (c : ℕ × Complete) (within : 
   log_answers m n None maps same is = all_parts g page c within none empty ∙ ap (λ r. r >>= log_applied g page c) (counted_maps g page c within none empty m maps same) ∙ is
   log_answers m n (Some at) maps same is = all_parts g page c within none empty ∙ ap (λ r. r >>= log_applied g page c) (counted_maps g page c within none empty m maps same) ∙ is
 
--- the region that counts is one of two
+-- the number of the region that counts
 abbrev region_of : Option (ℕ × Complete) → ℕ
 region_of None = 0
 region_of (Some c) = c.0
@@ -118,7 +118,7 @@ chosen_below (Some c) (Some d) = either_below (d.stamp.era == (c.stamp.era + 1) 
 pub region_below : (g : Geometry) (page : Place → Page) (c : ℕ × Complete) → Some c ≡ newest g page → c.0 < 2
 region_below g page c is = omega (arith, ap region_of is, chosen_below (checkpoint_in (checkpoint_region g page 0)) (checkpoint_in (checkpoint_region g page 1)))
 
--- no region counts, or its numbers are others
+-- no region counts, or the wanted numbers are others
 pub never_sealed : (g : Geometry) (page : Place → Page) → None ≡ newest g page → load g page ≡ Err NotFormatted
 unfolding load
 never_sealed g page none = ap (λ o. ok_or o NotFormatted >>= wanted g >>= replayed g page >>= λ m. all_whole page (entries m) m) (sym none)

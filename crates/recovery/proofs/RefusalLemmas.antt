@@ -1,4 +1,4 @@
--- A refusal on the way of a loading is one of the loading.
+-- An error on the way of a loading is an error of the loading.
 use Rattle.std.proofs.Common.{◌≡◌, Bool, true, false, cond, Result, Ok, Err, sym, ap, subst}
 use Rattle.ft_base.specs.declared.geometry.Geometry.{Geometry}
 use Rattle.cache_model.specs.Loading.{Refusal, ◌>>=◌}
@@ -6,7 +6,7 @@ use Rattle.op_log.specs.declared.error.OpenError.{OpenError}
 use Rattle.op_log.specs.declared.error.OpenError.TheVariants.{NotFormatted, OtherGeometry, Damaged, FlashFault, DiskFault, PowerLost, OutOfMemory}
 use Rattle.op_log.specs.Refusals.{IsRefusal}
 
--- a step that was refused ends all that comes after it
+-- a step that failed ends all steps after it
 pub bind_refused : {A B : Type 0} (g : Geometry) (e : OpenError) (r : Result A Refusal) (f : A → Result B Refusal) → IsRefusal g e r → IsRefusal g e (r >>= f)
 bind_refused g NotFormatted r f is = ap (λ x. x >>= f) is
 bind_refused g (OtherGeometry found wanted) r f is = (ap (λ x. x >>= f) is.0, is.1)
@@ -16,11 +16,11 @@ bind_refused g DiskFault r f is = is
 bind_refused g PowerLost r f is = is
 bind_refused g OutOfMemory r f is = is
 
--- and so does one after steps that weren't
+-- so does a step that failed after steps that didn't
 pub then_refused : {A B : Type 0} (g : Geometry) (e : OpenError) (r : Result A Refusal) (x : A) (f : A → Result B Refusal) → r ≡ Ok x → IsRefusal g e (f x) → IsRefusal g e (r >>= f)
 then_refused g e r x f ok is = subst (λ s. IsRefusal g e (s >>= f)) (sym ok) is
 
--- only what comes by itself refuses a step that isn't refused
+-- a step that loading doesn't refuse fails only with errors that come by themselves
 none_refused : {A B : Type 0} (g : Geometry) (e : OpenError) (x : A) (r : Result B Refusal) → IsRefusal {A = A} g e (Ok x) → IsRefusal g e r
 none_refused g NotFormatted x r is = absurd (cc)
 none_refused g (OtherGeometry found wanted) x r is = absurd (let no = is.0 in cc)

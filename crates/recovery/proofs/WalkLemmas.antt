@@ -20,7 +20,7 @@ use Rattle.op_log.specs.declared.error.OpenError.TheVariants.{NotFormatted, Othe
 use Rattle.op_log.specs.Refusals.{IsRefusal}
 use Rattle.op_log.specs.Walk.{page_step, Stepped}
 
--- the pages below i are applied, and those from there on are left
+-- the pages below i are applied, and the pages from there on are left
 pub record Walked (g : Geometry) (kind : PageKind) (stamp : Stamp) (at : ℕ → Place) (page : Place → Page) (n : ℕ) (old : Entries) (i : ℕ) (now : Entries) : Type 0 where
   pub same : after_pages g kind stamp at 0 (pages_from page at 0 n) old ≡ after_pages g kind stamp at i (pages_from page at i (n - i)) now
 
@@ -30,7 +30,7 @@ map_then f k (Some x) d = refl
 
 module _ (g : Geometry) (kind : PageKind) (stamp : Stamp) (at : ℕ → Place) (page : Place → Page) (n : ℕ) (old : Entries) where
   module _ (i : ℕ) (now : Entries) (within : i < n) (walked : Walked g kind stamp at page n old i now) where
-    -- the next page, and then those behind it
+    -- the next page, and then the pages behind it
     next_page : after_pages g kind stamp at 0 (pages_from page at 0 n) old ≡ option_map_or (λ r. r >>= after_pages g kind stamp at (i + 1) (pages_from page at (i + 1) (n - (i + 1)))) (page_step g kind stamp i (at i) (page (at i)) now) (Ok now)
     next_page =
         let some : n - i ≡ suc (n - (i + 1)) = omega arith in
@@ -49,7 +49,7 @@ module _ (g : Geometry) (kind : PageKind) (stamp : Stamp) (at : ℕ → Place) (
     pub walk_refused : (d : Refusal) → page_step g kind stamp i (at i) (page (at i)) now ≡ Some (Err d) → after_pages g kind stamp at 0 (pages_from page at 0 n) old ≡ Err d
     walk_refused d is = by_step (Some (Err d)) is
 
-    -- the same of what a call answered, whose page is the one at this place
+    -- the same for the answer of a call that read the page at this place
     module _ (place : Place) (page' : Place → Page) (here : place ≡ at i) (pages : page' ≡ page) where
       as_here : page_step g kind stamp i place (page' place) now ≡ page_step g kind stamp i (at i) (page (at i)) now
       as_here = ap (λ p. page_step g kind stamp i place (p place) now) pages ∙ ap (λ q. page_step g kind stamp i q (page q) now) here
@@ -71,7 +71,7 @@ module _ (g : Geometry) (kind : PageKind) (stamp : Stamp) (at : ℕ → Place) (
       stepped_refused PowerLost new is = is
       stepped_refused OutOfMemory new is = is
 
--- ---- where the pages lie
+-- ---- the places of the pages
 
 -- the chosen checkpoint is one of the two
 one_of_two : (x y : Option Complete) (c : ℕ × Complete) → chosen x y ≡ Some c → (x ≡ Some c.1) ⊎ (y ≡ Some c.1)

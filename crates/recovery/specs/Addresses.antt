@@ -5,6 +5,6 @@ use Rattle.std.specs.FinMap.{get}
 use Rattle.cache_model.specs.declared.entry.Entry.{Entry}
 use Rattle.cache_model.specs.Records.{Entries}
 
--- each address that is held is in the list
+-- each held address is in the list
 abbrev pub HasAddresses : Entries → List ℕ → Type 0
 HasAddresses m addresses = (a : ℕ) (e : Entry) → get m a ≡ Some e → Contains addresses a

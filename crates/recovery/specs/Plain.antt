@@ -1,4 +1,4 @@
--- A flash as a list of its pages, and what is loaded from it.
+-- A flash as a list of its pages, and the result of loading it.
 use Rattle.std.specs.Prelude.{◌≡◌, ℕ, ◌+◌, ◌*◌, List, Option, slice_index_or, Result, Ok, Err}
 use Rattle.ft_base.specs.declared.geometry.Geometry.{Geometry}
 use Rattle.ft_base.specs.declared.block.Place.{Place}
@@ -17,11 +17,11 @@ use Rattle.recovery.specs.declared.plain.PlainLoad.TheVariants.{Loaded, NotForma
 use Rattle.recovery.specs.declared.plain.pages.Stamp.{Stamp as Read}
 use Rattle.recovery.specs.declared.plain.regions.Sealed.{Sealed as Found}
 
--- the page at a place: the list has those of each erase block in turn, and behind its last all are blank
+-- the page at a place: the list has the pages of each erase block in turn, and all pages behind the list are blank
 abbrev pub page_listed : Geometry → List Page → Place → Page
 page_listed g pages at = slice_index_or pages (at.block * g.p + at.page) Blank
 
--- a stamp, as loading names it, and what a seal says
+-- a stamp, as loading names it, and the contents of a seal
 abbrev pub named : Read → Stamp
 named stamp = record { format = stamp.format; era = stamp.era }
 
@@ -35,7 +35,7 @@ complete_of s = complete (named s.stamp) s.pages (sealed_with (s.seal, s.totals)
 abbrev pub complete_in : ℕ × Found → ℕ × Complete
 complete_in x = (x.0, complete_of x.1)
 
--- where the pages of a kind lie, and how many a region has
+-- the places of the pages of a kind, and how many pages a region has
 abbrev pub place_of : PageKind → Geometry → ℕ → ℕ → Place
 place_of Log g region i = log_at g region i
 place_of Map g region i = checkpoint_at g region i
@@ -46,7 +46,7 @@ region_pages Log g = log_pages g
 region_pages Map g = checkpoint_pages g
 region_pages Seal g = checkpoint_pages g
 
--- what is answered is what loading answers
+-- the program's answer is the answer of loading
 abbrev pub IsPlainLoad : Geometry → PlainLoad → Result Entries Refusal → Type 0
 IsPlainLoad g (Loaded map) loads = (loads ≡ Ok map.entries) × (map.geometry ≡ g)
 IsPlainLoad g NotFormatted loads = loads ≡ Err loading.NotFormatted

@@ -12,7 +12,7 @@ use ft_base::Geometry;
 use ft_media::{Media, MediaError};
 use op_log::OpenError;
 
-/// A read of the flash was refused.
+/// The error of an opening after a read of the flash that failed.
 pub(crate) fn of_media(error: MediaError) -> OpenError
     ensures { result ≡ refusals.opening_refusal error }
 {
@@ -47,7 +47,7 @@ pub(crate) fn is_wanted(geometry: &Geometry, seal: &Seal) -> bool
         && seal.size == geometry.size
 }
 
-/// The checkpoint that counts, which was made for these numbers.
+/// The checkpoint that counts, if it was made for these numbers.
 pub(crate) fn find_checkpoint<M: Media>(
     media: &mut M,
     geometry: &Geometry,

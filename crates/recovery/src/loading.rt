@@ -22,20 +22,20 @@ use mapping::Map;
 use op_log::{OpenError, Stamp, apply_page, roll};
 use std::alloc::Global;
 
-/// The map that the flash stands for, and where its checkpoint lies.
+/// The map for which the flash stands, with the region and the era of its checkpoint.
 #[derive(Drop)]
 pub struct Loaded {
     /// The map.
     pub map: Map,
     /// The region of the checkpoint that counts, 0 or 1.
     pub region: u32,
-    /// Its era, 0 to 2.
+    /// The era of that checkpoint, 0 to 2.
     pub era: u8,
 }
 
-/// Loads the map from the flash: the newest checkpoint, of either format, its log, and a look at each entry's
-/// page. It writes nothing. Its time grows with the pages that it reads, with P for each of their records, with the
-/// pages of the pool, and with one sort of the addresses held.
+/// Loads the map from the flash: the newest checkpoint, of either format, its log, and a look at each entry's page. It
+/// writes nothing. Its time grows with the pages that it reads, with P for each of their records, and with the pages of
+/// the pool. It also sorts the held addresses once.
 pub fn load<M: Media>(
     alloc: Global,
     media: &mut M,

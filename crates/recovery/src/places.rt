@@ -17,7 +17,7 @@ use mapping::Map;
 use op_log::OpenError;
 use std::alloc::{AllocError, Global};
 
-/// Reads the place of each entry, in ascending order of address, up to the first that isn't whole.
+/// Reads the page of each entry, in ascending order of address, up to the first page that isn't whole.
 pub(crate) fn look_at_places<M: Media>(
     alloc: Global,
     media: &mut M,
@@ -56,7 +56,7 @@ fn held_addresses(alloc: Global, map: &Map) -> Result<Vec<u64>, AllocError>
     Ok(addresses)
 }
 
-/// Reads a page, which has to be whole.
+/// Reads a page, which must be whole.
 fn look_at<M: Media>(media: &mut M, geometry: &Geometry, at: Place) -> Result<(), OpenError>
     requires shape { FitsOn geometry.now (M.state media.old).contents.shape }
     requires block { at.block < blocks geometry.now }

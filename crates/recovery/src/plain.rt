@@ -1,7 +1,6 @@
-//! Loading once more, over a list of pages: as plainly as it is defined, and as slowly.
+//! A second program for loading, over a list of pages: as plain as the definition, and as slow.
 //!
-//! It shares the codecs, the layout of `Geometry` and `Map` with `load`, and nothing else, so that each can be
-//! held against the other.
+//! It shares only the codecs, the layout of `Geometry` and `Map` with `load`, so that the two can be compared.
 
 ghost use Rattle.std.specs.Prelude.{IfOk};
 ghost use Rattle.cache_model.specs.Loading.{load};
@@ -21,22 +20,22 @@ use ft_base::{Geometry, Page, Place};
 use mapping::Map;
 use std::alloc::{AllocError, Global};
 
-/// What a flash is loaded as.
+/// The result of loading a flash.
 #[derive(Drop)]
 pub enum PlainLoad {
-    /// The map that it stands for.
+    /// The map for which the flash stands.
     Loaded(Map),
-    /// No checkpoint on it is complete.
+    /// No checkpoint on the flash is complete.
     NotFormatted,
-    /// Its newest checkpoint was made for these numbers, and not for those asked for.
+    /// The newest checkpoint was made for these numbers, and not for the wanted ones.
     OtherGeometry(Seal),
-    /// The records of this page can't be read or don't fit, or it is a seal and the entries are not as many as it
-    /// says, or it is that of an entry and isn't whole.
+    /// This page is damaged. Its records can't be read or don't fit; or it is a seal, and there are more or fewer
+    /// entries than it says. Or it is the page of an entry, and isn't whole.
     Damaged(Place),
 }
 
-/// Loads the map from the pages of a flash: those of each erase block in turn, and behind the last all
-/// are blank.
+/// Loads the map from the pages of a flash. The list has the pages of each erase block in turn, and all pages behind
+/// the list are blank.
 pub fn plain_load(
     alloc: Global,
     geometry: &Geometry,

@@ -1,4 +1,4 @@
--- What becomes of the bytes that raw flash in memory shows, where the media beneath are written.
+-- How the bytes that raw flash in memory shows change when the media beneath are written.
 use Rattle.std.proofs.Common.{◌≡◌, ◌<◌, ◌==◌, ◌&&◌, ◌⊎◌, ℕ, Bool, true, false, nat_lt, List, [], inl, inr, refl, sym, ◌∙◌, ap, subst, arith, cond, eq-eqb}
 use Rattle.std.specs.Prelude.{Result}
 use Rattle.std.proofs.lemmas.Bool.Decides.{nat_tests}
@@ -24,7 +24,7 @@ use Rattle.sealed_media.specs.Seals.{seal_pages}
 use Rattle.sealed_media.specs.Mem.{raw_of, blank_shown}
 use Rattle.sealed_media.proofs.TearingLemmas.{erased_is, torn_unsealed}
 
--- what a torn page may hold
+-- the bytes that a torn page may have
 abbrev pub Unsealed : RawPage → Type 0
 Unsealed raw = IsSealed raw → ⊥
 
@@ -41,7 +41,7 @@ one_place at q same = by_tests (at.block == q.block) (at.page == q.page) refl re
     by_tests false t block number both = cc
 
 module _ (number pages : ℕ) where
-  -- what is shown of a page that is there
+  -- the bytes that are shown for a page of the flash
   pub shown_there : (last : Place → List ℕ) (found : Place → Page) (at : Place) → at.page < pages → shown_pages number pages last found at ≡ shown number (last at) at (found at)
   unfolding shown_pages
   shown_there last found at within =
@@ -90,7 +90,7 @@ module _ (number pages : ℕ) where
             absurd (grind (arith, nat_tests, past, number_is, within))
         by_tests false false past apart = refl
 
--- a page keeps what it was where it is put again
+-- a page keeps its bytes if the same bytes are put again
 same_raw : (f : Place → RawPage) (at : Place) (raw : RawPage) → f at ≡ raw → (q : Place) → set_raw f at raw q ≡ f q
 same_raw f at raw is q = by_test (same_place at q) refl
   where
@@ -192,7 +192,7 @@ module _ {T : Type 0} (number pages later : ℕ) (last after : Place → List �
         };
   }
 
--- media as they are fitted show erased pages
+-- media that `fit` made show erased pages
 pub mem_new : (number pages blocks each size : ℕ) (last : Place → List ℕ) (s : State) → s.contents ≡ new_contents blocks each size → plain_contents (raw_of number pages last s).contents ≡ new_contents blocks each size
 mem_new number pages blocks each size last s is = λ i. record {
   shape = (is i).shape;
@@ -219,7 +219,7 @@ mem_flash_stays number pages last a b was_lost stays = record {
   page = λ i at. plain_page (shown_pages number pages last (stays.page i) at);
 }
 
--- a page that is there
+-- a page of the flash
 pub page_there : (m : MemRawRig) (at : Place) → at.page < (state_of m.rig).contents.shape.pages → at.page < seal_pages m.seals
 page_there m at inside =
     let many = m.pages in

@@ -1,4 +1,4 @@
--- What becomes of the plain media where raw media are written.
+-- How the plain media change when raw media are written.
 use Rattle.std.proofs.Common.{◌≡◌, ◌==◌, ◌⊎◌, ℕ, Bool, true, false, inl, inr, refl, sym, ◌∙◌, ap, arith, cond}
 use Rattle.std.specs.Prelude.{Result, Ok, Err, OnOk}
 use Rattle.std.proofs.lemmas.Bool.{cases_eq}
@@ -18,12 +18,12 @@ use Rattle.sealed_media.specs.RawState.{RawFlash}
 use Rattle.sealed_media.specs.Raw.{set_raw, raw_programmed, LeavesRaw, RawErased, LeavesErased}
 use Rattle.sealed_media.proofs.SealLemmas.{blank_so, sealed_test, tests}
 
--- a result that has more where it is Ok
+-- a result with more facts if it is `Ok`
 pub where_ok : {T E : Type 0} {A B : Type 0} (r : Result T E) → (A → B) → OnOk r A → OnOk r B
 where_ok (Ok value) f has = f has
 where_ok (Err e) f has = tt
 
--- what is read of a page
+-- the bytes that are read of a page
 pub found_so : (raw : RawPage) (found : PageRead) (block : Block) (spare : Spare) → found ≡ classified raw → (found ≡ read.Whole → (block ≡ block_in raw) × (spare ≡ spare_in raw)) → Found (plain_page raw) found block spare
 unfolding plain_page
 found_so raw found block spare is parts = by_found found parts (classified raw) (sym is)
@@ -61,7 +61,7 @@ plain_set old at value q = by_test (same_place at q)
 set_plain : (old new : Place → RawPage) (at : Place) (value : RawPage) (is : Page) → new ≡ set_raw old at value → plain_page value ≡ is → ◌≡◌ {A = Place → Page} (λ p. plain_page (new p)) (set_page (λ p. plain_page (old p)) at is)
 set_plain old new at value is change plain = (λ i p. plain_page (change i p)) ∙ (λ i q. plain_set old at value q i) ∙ ap (set_page (λ p. plain_page (old p)) at) plain
 
--- a page keeps what it was where it is put again
+-- a page keeps its value if the same value is put again
 same_page : (f : Place → Page) (at : Place) (value : Page) → f at ≡ value → (q : Place) → set_page f at value q ≡ f q
 same_page f at value is q = elim (cases_eq at.block q.block) [
   | inl block ↦ elim (cases_eq at.page q.page) [
@@ -114,7 +114,7 @@ plain_erase_leaves torn old new block never leaves at = by_page (leaves at)
     by_page (inr (here, inl erased)) = inr (here, inl (erased_is_blank (new.page at) erased))
     by_page (inr (here, inr bad)) = inr (here, unsealed_is (new.page at) (never (new.page at) bad))
 
--- the page of which this was read
+-- the page that was read
 pub found_blank : (p : Page) (block : Block) (spare : Spare) → Found p read.Blank block spare → page.Blank ≡ p
 found_blank page.Blank block spare found = refl
 found_blank (page.Whole b s) block spare found = let other : read.Blank ≡ read.Whole = found.0 in cc

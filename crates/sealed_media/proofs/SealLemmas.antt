@@ -41,7 +41,7 @@ ones_never_cleared (x ∷ seal) (first ∷ later) ones some is =
     let small : bit_and first 127 ≤ 127 = and_le_r first 127 in
     absurd (omega (arith, one, same, small))
 
--- so a page that is erased isn't sealed
+-- so an erased page isn't sealed
 pub erased_unsealed : (raw : RawPage) → length raw.0 ≡ 4160 → IsErased raw → IsSealed raw → ⊥
 unfolding IsErased IsSealed seal_of
 erased_unsealed raw long erased sealed = ones_never_cleared (seal_in raw) _ (All-drop (λ byte. byte ≡ 255) 4128 raw.0 erased) (omega (arith, length-drop 4128 raw.0, long)) sealed
@@ -84,7 +84,7 @@ joined z one two three bs ss ts block spare last b s t first then third b_long s
     put_all z one two three bs ss ts 4096 4128 first then (sym b_long) n_is third (omega (arith, long, t_long))
     ∙ ap (λ l. (l ++ ss) ++ ts) b ∙ ap (λ l. (block.0 ++ l) ++ ts) s ∙ ap (λ l. (block.0 ++ spare.0) ++ l) t
 
--- what a page is classified as
+-- the classification of a page
 false_where : {P : Type 0} → (t : Bool) → Decides t P → (P → ⊥) → t ≡ false
 false_where true decides never = absurd (never (decides.0 refl))
 false_where false decides never = refl

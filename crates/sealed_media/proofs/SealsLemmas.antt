@@ -1,4 +1,4 @@
--- The last bytes of a page, among those of all pages.
+-- The last bytes of a page, in the list of all pages' last bytes.
 use Rattle.std.proofs.Common.{◌≡◌, ◌≢◌, ◌<◌, ◌≤◌, ◌+◌, ◌*◌, ◌==◌, ◌&&◌, ◌⊎◌, ℕ, Bool, true, false, List, [], length, slice_set, slice_index_or, inl, inr, refl, sym, ◌∙◌, ap, arith, cond}
 use Rattle.std.proofs.Math.Nat.{mul-le-mul_right}
 use Rattle.std.proofs.lemmas.Bool.{cases_eq, cases_order}

@@ -1,4 +1,4 @@
--- What raw flash, disk and power in memory are.
+-- Raw flash, disk and power in memory.
 use Rattle.std.specs.Prelude.{◌≡◌, ℕ, Bool, true, false, nat_lt, List, []}
 use Rattle.std.proofs.Common.{◌∙◌, ap, cond}
 use Rattle.ft_base.specs.declared.block.Place.{Place}
@@ -13,7 +13,7 @@ use Rattle.sealed_media.specs.Seals.{seal_at, seal_pages}
 use Rattle.sealed_media.specs.Shown.{shown, shown_pages}
 use Rattle.sealed_media.specs.RawState.{RawState, plain_contents, plain_state}
 
--- the raw media that media show, with the numbers of their torn pages and the last bytes of whole ones
+-- the raw media that media show, with the number from which torn pages are drawn, and the last bytes of whole pages
 abbrev pub raw_of : ℕ → ℕ → (Place → List ℕ) → State → RawState
 raw_of number pages last s = record {
   contents = record {
@@ -30,7 +30,7 @@ raw_of number pages last s = record {
 abbrev pub raw_state_of : MemRawRig → RawState
 raw_state_of m = raw_of m.tear (seal_pages m.seals) (seal_at m.seals) (state_of m.rig)
 
--- a page that is blank shows bytes of ones
+-- a blank page shows bytes of ones
 pub blank_shown : (number pages : ℕ) (last : Place → List ℕ) (found : Place → Page) (at : Place) → found at ≡ page.Blank → plain_page (shown_pages number pages last found at) ≡ page.Blank
 unfolding shown_pages
 blank_shown number pages last found at blank = by_test (nat_lt at.page pages)

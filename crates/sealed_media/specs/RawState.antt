@@ -1,4 +1,4 @@
--- What raw media are at one moment, and for which plain media they stand.
+-- Raw media at one moment, and the plain media for which they stand.
 use Rattle.std.specs.Prelude.{ℕ, List, Option}
 use Rattle.ft_base.specs.declared.block.Place.{Place}
 use Rattle.ft_base.specs.Contents.{Contents, Shape, Values}
@@ -7,7 +7,7 @@ use Rattle.ft_media.specs.declared.rig.Counts.{Counts}
 use Rattle.sealed_media.specs.declared.page.RawPage.{RawPage}
 use Rattle.sealed_media.specs.Seal.{plain_page}
 
--- the bytes of each page, and for each erase block the page to program next, where it is ready
+-- the bytes of each page, and for each erase block the page to program next, if the block is ready
 pub record RawFlash : Type 0 where
   pub page : Place → RawPage
   pub next : ℕ → Option ℕ
@@ -18,7 +18,7 @@ pub record RawContents : Type 0 where
   pub flash : RawFlash
   pub disk : ℕ → Values
 
--- raw media at one moment: contents apart, what `State` has of media that tell torn pages
+-- raw media at one moment: all but the contents is as in `State`, for media that know which pages are torn
 pub record RawState : Type 0 where
   pub contents : RawContents
   pub counts : Counts
@@ -26,7 +26,7 @@ pub record RawState : Type 0 where
   pub power : Power
   pub lent : List ℕ
 
--- the contents for which raw contents stand: each page as it is classified, all else as it is
+-- the contents for which raw contents stand: each page as it is classified, and all else unchanged
 abbrev pub plain_contents : RawContents → Contents
 plain_contents raw = record {
   shape = raw.shape;

@@ -1,4 +1,4 @@
--- What the bytes of a raw page say of it.
+-- What the bytes of a raw page say of the page.
 use Rattle.std.specs.Prelude.{◌≡◌, ◌==◌, ℕ, zero, suc, Bool, true, List, [], ◌∷◌, ◌++◌, take, drop, replicate, bit_and, bytes_eq, if◌then◌else◌}
 use Rattle.std.specs.List.{list_all}
 use Rattle.std.proofs.Common.{refl, ap}
@@ -12,16 +12,16 @@ use Rattle.ft_media.specs.declared.media.PageRead.{PageRead}
 use Rattle.ft_media.specs.declared.media.PageRead.TheVariants as read
 use Rattle.sealed_media.specs.declared.page.RawPage.{RawPage}
 
--- the bytes with the top bit of the first one cleared
+-- the bytes, with the top bit of the first byte cleared
 abbrev pub top_cleared : List ℕ → List ℕ
 top_cleared [] = []
 top_cleared (first ∷ later) = bit_and first 127 ∷ later
 
--- the seal of the bytes before it: their SHA-256, but for its top bit
+-- the seal of the bytes before it: their SHA-256, with its top bit cleared
 unfoldable pub seal_of : List ℕ → List ℕ
 seal_of bytes = top_cleared (sha256 bytes)
 
--- what is sealed of a page, and where its seal stands
+-- the bytes of a page that are sealed, and its seal
 abbrev pub sealed_bytes : RawPage → List ℕ
 sealed_bytes raw = take 4128 raw.0
 
@@ -36,14 +36,14 @@ IsSealed raw = seal_in raw ≡ seal_of (sealed_bytes raw)
 unfoldable pub IsErased : RawPage → Type 0
 IsErased raw = IsEach 255 raw.0
 
--- the same as tests
+-- the same facts as tests
 unfoldable pub is_sealed : RawPage → Bool
 is_sealed raw = bytes_eq (seal_in raw) (seal_of (sealed_bytes raw))
 
 unfoldable pub is_erased : RawPage → Bool
 is_erased raw = list_all (λ byte. byte == 255) raw.0
 
--- a page that is erased is blank, one that is sealed is whole, and any other is torn
+-- a page that is erased is blank, a page that is sealed is whole, and any other page is torn
 abbrev pub classified : RawPage → PageRead
 classified raw = if is_erased raw then read.Blank else if is_sealed raw then read.Whole else read.Torn
 
@@ -59,7 +59,7 @@ page_so read.Blank raw = page.Blank
 page_so read.Whole raw = page.Whole (block_in raw) (spare_in raw)
 page_so read.Torn raw = page.Torn
 
--- what the page is, as it is classified
+-- the page, as it is classified
 unfoldable pub plain_page : RawPage → Page
 plain_page raw = page_so (classified raw) raw
 
@@ -71,7 +71,7 @@ joined_page block spare last = record { 0 = (block.0 ++ spare.0) ++ last }
 abbrev pub sealed_page : Block → Spare → RawPage
 sealed_page block spare = joined_page block spare (seal_of (block.0 ++ spare.0))
 
--- so many bytes of ones
+-- n bytes of ones
 unfoldable pub ones_page : ℕ → RawPage
 ones_page n = record { 0 = replicate n 255 }
 

@@ -9,6 +9,6 @@ seal_blocks seals = seals.blocks
 abbrev pub seal_pages : Seals → ℕ
 seal_pages seals = seals.pages
 
--- those of a page that is there
+-- the last bytes of a page of the flash
 unfoldable pub seal_at : Seals → Place → List ℕ
 seal_at seals at = slice_index_or seals.all.items (at.block * seals.pages + at.page) []

@@ -1,4 +1,4 @@
--- What stands in the torn pages of raw flash in memory.
+-- The bytes of the torn pages of raw flash in memory.
 use Rattle.std.specs.Prelude.{ℕ, ◌+◌, ◌*◌, ◌%◌, ◌^◌, if◌then◌else◌}
 use Rattle.rand_core.specs.Steps.{fill_via_u32}
 use Rattle.rand_core.specs.Pcg32Seed.{pcg32_seed}
@@ -11,10 +11,10 @@ use Rattle.sealed_media.specs.Seal.{is_sealed, erased_page}
 abbrev pub seed_at : ℕ → Place → ℕ
 seed_at number at = (number + (at.block * 2 ^ 32 + at.page)) % 2 ^ 64
 
--- the bytes that are drawn for it
+-- the bytes that are drawn for the page at this place
 unfoldable pub drawn_page : ℕ → Place → RawPage
 drawn_page number at = record { 0 = (fill_via_u32 pcg32 4160 (pcg32_of_seed (pcg32_seed 16 (seed_at number at)))).0 }
 
--- those, and all ones where they would be sealed
+-- the drawn bytes, or all ones if the drawn bytes would be sealed
 unfoldable pub torn_page : ℕ → Place → RawPage
 torn_page number at = if is_sealed (drawn_page number at) then erased_page else drawn_page number at

@@ -1,12 +1,14 @@
-//! Raw flash: it gives back the bytes of a page, and doesn't say which of its pages are torn. Each page carries a
-//! seal by which the rig over it knows.
+//! Raw flash: it gives back the bytes of a page, and doesn't say which of its pages are torn. Each page carries a seal,
+//! from which the rig over it knows.
 //!
-//! The layers above rely on this: `SealedRig` meets `Media` and `Rig` over any `RawRig`, with the plain media that the
-//! raw ones stand for (`plain_state`), page by page as `classify` says. A page with its own seal is whole, one of all
-//! ones is blank, and any other is torn. The one premise on raw flash is `never_sealed` of `RawMedia`: what a refused
-//! step leaves in a page that is neither as before nor wholly programmed isn't sealed. In all else the clauses of
-//! `RawMedia` and `RawRig` are those of `ft_media`. `MemRawRig` is the one such rig: a `MemRig` that keeps the last
-//! bytes of each page beside, and shows random bytes for a torn one.
+//! The layers above rely on this: `SealedRig` meets `Media` and `Rig` over any `RawRig`. Its plain media are the ones
+//! for which the raw media stand (`plain_state`), page by page as `classify` says. A page with its own seal is whole, a
+//! page of all ones is blank, and any other page is torn.
+//!
+//! The one premise on raw flash is `never_sealed` of `RawMedia`. A failed step may leave a page that is neither
+//! unchanged nor wholly programmed; such a page isn't sealed. In all else the clauses of `RawMedia` and `RawRig` are
+//! the clauses of `ft_media`. `MemRawRig` is the one such rig: a `MemRig` that also keeps the last bytes of each page,
+//! and shows random bytes for a torn one.
 #![tactic(auto)]
 
 mod media;

@@ -15,15 +15,15 @@ use crate::RawPage;
 use ft_base::{Block, Place};
 use ft_media::MediaError;
 
-/// Media whose flash gives back the bytes of a page, and doesn't say whether it is torn.
+/// Media whose flash gives back the bytes of a page, and doesn't say whether the page is torn.
 ///
-/// In all but the bytes of pages the clauses are those of `Media`, for the plain media that these stand for
+/// In all but the bytes of pages the clauses are the clauses of `Media`, for the plain media for which these stand
 /// (`plain_state`).
 pub trait RawMedia {
-    /// What the media are, as one value.
+    /// The media, as one value.
     ghost state: { Self → RawState };
 
-    /// What a refused step may leave in a page that is neither as before nor wholly programmed.
+    /// The bytes that a failed step may leave in a page that is neither unchanged nor wholly programmed.
     ghost torn: { RawPage → Type 0 };
 
     /// Erase blocks of the flash.
@@ -70,7 +70,7 @@ pub trait RawMedia {
         ensures device { DeviceWrite (plain_state (state self.old)) (plain_state (state self.new)) result }
         ensures passes { Passes (plain_state (state self.old)) (plain_state (state self.new)) (lost result) };
 
-    /// Erases a block, which is ready once that is done.
+    /// Erases a block, which is ready after that.
     fn erase(&mut self, block: u32) -> Result<(), MediaError>
         requires { block < (state self.old).contents.shape.blocks }
         ensures ok { OnOk result (RawErased (state self.old).contents.flash (state self.new).contents.flash block) }
@@ -106,7 +106,7 @@ pub trait RawMedia {
         requires { lba < (state self.old).contents.shape.size }
         ensures ok { OnOk result ((at : ℕ) → (state self.new).contents.disk at ≡ after_write
             (state self.old).contents.disk lba block.now at) }
-        // Whatever is answered, a disk block has a value that it had, or the one that is written.
+        // Whatever the call answers, a disk block has a value that it had, or the value that is written.
         ensures values { (at : ℕ) (b : Block) → HasValue ((state self.new).contents.disk at) b
             → HasValue ((state self.old).contents.disk at) b ⊎ ((at ≡ lba) × (b ≡ block.now)) }
         ensures failed { IsErrOf result error.Failed → ((state self.new).contents.disk ≡ (state self.old).contents.disk)
@@ -145,12 +145,12 @@ pub trait RawMedia {
     /// In a block that is ready, each page from the next one on is erased.
     ghost blank_ahead: { (m : Self) → IsBlankAhead (plain_contents (state m).contents) };
 
-    /// What is ready is an erase block of the flash.
+    /// Each block that is ready is an erase block of the flash.
     ghost ready_inside: { (m : Self) → (b : ℕ) → (state m).contents.shape.blocks ≤ b → (state m).contents.flash.next b ≡ None };
 
     /// With power off nothing is ready, and each disk block has one value.
     ghost off_is_crashed: { (m : Self) → (state m).power.on ≡ false → Crashed (plain_contents (state m).contents) };
 
-    /// The numbers fit their types, and few stops are armed.
+    /// The numbers fit their types, and at most 16 stops are armed.
     ghost is_small: { (m : Self) → IsSmall (plain_state (state m)) };
 }

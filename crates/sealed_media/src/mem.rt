@@ -38,8 +38,8 @@ impl MemRawRig {
         MemRawRig::failing(alloc, tear, Vec::new(alloc), Vec::new(alloc))
     }
 
-    /// The same, but the calls of the flash and those of the disk with these numbers will fail, from 1 and
-    /// counted since now.
+    /// The same, but the calls of the flash and of the disk with these numbers will fail. The numbers start at 1, and
+    /// count from now on.
     pub fn failing(alloc: Global, tear: u64, flash: Vec<u64>, disk: Vec<u64>) -> MemRawRig
         ensures contents { (plain_state (raw_state_of result)).contents ≡ new_contents 0 0 0 }
         ensures counts { (raw_state_of result).counts ≡ record { programs = 0; erases = 0; disk_reads = 0; disk_writes = 0; disk_flushes = 0 } }

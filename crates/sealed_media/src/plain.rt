@@ -1,4 +1,4 @@
-//! What raw pages stand for, computed.
+//! The pages for which raw pages stand, computed.
 ghost use Rattle.std.specs.Prelude.{◌≡◌};
 ghost use Rattle.sealed_media.specs.Seal.{plain_page};
 

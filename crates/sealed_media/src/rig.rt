@@ -12,14 +12,14 @@ use std::alloc::{AllocError, Global};
 
 /// Raw media whose size, power and stops the caller sets.
 pub trait RawRig: RawMedia {
-    /// Makes flash and disk anew: each page erased and each block ready, each disk block zero, power on
-    /// and nothing armed. Counts stay. Refused, all is as before.
+    /// Makes flash and disk anew: each page is erased, each block ready and each disk block zero. Power is on, nothing
+    /// is armed, and the counts stay. On `Err` nothing has changed.
     fn fit(&mut self, alloc: Global, blocks: u32, pages: u32, size: u64) -> Result<(), AllocError>
         ensures ok { OnOk result (plain_state (Self.state self.new) ≡ fitted (plain_state (Self.state self.old)) blocks pages size) }
         ensures erased { OnOk result ((at : Place) → IsErased ((Self.state self.new).contents.flash.page at)) }
         ensures err { OnErr result (Self.state self.new ≡ Self.state self.old) };
 
-    /// Puts a stop to the end of the queue. The first of the queue cuts a device write.
+    /// Puts a stop at the end of the queue. The first stop of the queue cuts a device write.
     fn arm(&mut self, after: u64, outcome: Outcome)
         requires room { length (Self.state self.old).power.stops < 16 }
         requires after { 1 ≤ after }
@@ -45,7 +45,7 @@ pub trait RawRig: RawMedia {
     fn is_on(&self) -> bool
         ensures { result ≡ (Self.state self.now).power.on };
 
-    /// The counts of calls that answered Ok.
+    /// The counts of calls that answered `Ok`.
     fn counts(&self) -> Counts
         ensures { result ≡ (Self.state self.now).counts };
 }

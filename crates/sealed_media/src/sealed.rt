@@ -4,8 +4,8 @@ use ft_base::{Block, Outcome, Place, Spare};
 use ft_media::{Counts, Media, MediaError, PageRead, Rig};
 use std::alloc::{AllocError, Global};
 
-/// A rig over a raw one: it seals each page that it programs, and of a page that it reads it says what its seal
-/// says. It takes no memory of its own.
+/// A rig over a raw rig. It seals each page that it programs, and classifies each page that it reads by its seal. It
+/// allocates nothing itself.
 #[derive(Drop)]
 pub struct SealedRig<'a, W: RawRig> {
     raw: &'a mut W,

@@ -36,7 +36,7 @@ pub(crate) fn join(block: &Block, spare: &Spare, last: &[u8; 32]) -> RawPage
     RawPage(page)
 }
 
-/// What a page is: whole exactly where it has its own seal, and blank exactly where each byte is 0xFF.
+/// What a page is. It is whole exactly when it has its own seal, and blank exactly when each byte is 0xFF.
 pub fn classify(page: &RawPage) -> PageRead
     ensures found { result ≡ spec.classified page.now }
     ensures whole { (result ≡ read.Whole) ↔ spec.IsSealed page.now }
@@ -59,7 +59,7 @@ pub(crate) fn is_sealed(page: &RawPage) -> bool
     page.0[SEALED..] == own_seal(&page.0)[..]
 }
 
-/// The seal of what is sealed of a page.
+/// The seal of the sealed bytes of a page.
 fn own_seal(page: &[u8; 4160]) -> [u8; 32]
     ensures { result ≡ spec.seal_of (take 4128 page.now) }
 {
@@ -94,7 +94,7 @@ fn put(page: &mut [u8; 4160], at: usize, part: &[u8])
     place.copy_from_slice(part);
 }
 
-/// Says what a page is, and fills the buffers where it is whole.
+/// Says what a page is, and fills the buffers if it is whole.
 pub(crate) fn take_out(page: &RawPage, block: &mut Block, spare: &mut Spare) -> PageRead
     ensures found { Found (spec.plain_page page.now) result block.new spare.new }
     ensures buffers { UnlessWhole (Ok result) ((block.new ≡ block.old) × (spare.new ≡ spare.old)) }

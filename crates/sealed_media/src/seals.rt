@@ -20,7 +20,7 @@ impl Seals {
     ghost use Rattle.ft_base.specs.Contents.{same_place};
     ghost use Rattle.sealed_media.specs.Seals.{seal_at, seal_blocks, seal_pages};
 
-    /// Of no page.
+    /// The last bytes of no page.
     pub(crate) fn none(alloc: Global) -> Seals
         ensures blocks { seal_blocks result ≡ 0 }
         ensures pages { seal_pages result ≡ 0 }
@@ -32,7 +32,7 @@ impl Seals {
         }
     }
 
-    /// Of so many pages of so many blocks.
+    /// The last bytes of `pages` pages in each of `blocks` blocks.
     pub(crate) fn new(alloc: Global, blocks: u32, pages: u32) -> Result<Seals, AllocError>
         ensures blocks { IfOk result (λ made. seal_blocks made ≡ blocks) }
         ensures pages { IfOk result (λ made. seal_pages made ≡ pages) }
@@ -51,7 +51,7 @@ impl Seals {
         self.all[at.block as usize * self.pages as usize + at.page as usize]
     }
 
-    /// Puts the last bytes of this page.
+    /// Sets the last bytes of this page.
     pub(crate) fn put(&mut self, at: Place, last: &[u8; 32])
         requires block { at.block < seal_blocks self.old }
         requires page { at.page < seal_pages self.old }

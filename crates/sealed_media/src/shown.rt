@@ -10,7 +10,7 @@ use crate::tearing::{erased, tear};
 use ft_base::{Block, Place, Spare, zero_block};
 use ft_media::PageRead;
 
-/// All bytes of a page that was found so, with these parts where it is whole.
+/// All bytes of a page that was found as `found`, with these parts if it is whole.
 pub(crate) fn show(
     found: PageRead,
     block: &Block,

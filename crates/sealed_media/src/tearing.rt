@@ -9,7 +9,7 @@ use rand_core::SeedableRng;
 use rand_core::utils::fill_bytes_via_u32;
 use rand_pcg::Lcg64Xsh32;
 
-/// What stands in the page at this place where it is torn. It is never sealed.
+/// The bytes of the page at this place if it is torn. They are never sealed.
 pub(crate) fn tear(number: u64, at: Place) -> RawPage
     ensures { result ≡ spec.torn_page number at }
 {

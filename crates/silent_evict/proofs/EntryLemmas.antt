@@ -1,4 +1,4 @@
--- What is known of the entries whose pages have the first numbers.
+-- The facts about the entries whose pages have the first numbers.
 use Rattle.std.proofs.Common.{◌≡◌, ℕ, ◌+◌, ◌<◌, ◌≤◌, Some, inl, inr, sym, ◌∙◌, ap, subst, arith}
 use Rattle.std.specs.FinMap.{get}
 use Rattle.std.proofs.lemmas.Bool.{cases_lt}

@@ -1,4 +1,4 @@
--- What the plain programs know of the entries that they have looked at.
+-- The facts that the plain programs have about the entries that they have looked at.
 use Rattle.std.proofs.Common.{◌≡◌, ℕ, ◌+◌, ◌/◌, ◌<◌, ◌≤◌, ◌⊎◌, Bool, true, false, Some, refl, subst, arith, inl, inr}
 use Rattle.std.specs.FinMap.{get}
 use Rattle.std.proofs.lemmas.Bool.{cases_Bool, cases_lt, both_ways}
@@ -15,7 +15,7 @@ use Rattle.silent_evict.proofs.EntryLemmas.{EachBefore, each_more, each_passed, 
 
 -- ---- a wholly clean group
 
--- of the entries with the first i numbers those of the group are clean, and there is one exactly where `held`
+-- the group's entries among the first i numbers are clean, and there is one exactly when `held` is true
 pub record CleanSoFar (g : Geometry) (m : Entries) (group i : ℕ) (held : Bool) : Type 0 where
   pub clean : EachBefore g m (λ a e. a / g.p ≡ group → e.dirty ≡ false) i
   pub some : held ≡ true → (a : ℕ) × (e : Entry) × (get m a ≡ Some e) × (a / g.p ≡ group)
@@ -63,7 +63,7 @@ clean_candidate g m group candidate = record { held = let found = candidate.some
 
 -- ---- a victim
 
--- of the groups of the entries with the first i numbers, no candidate has fewer pages
+-- no candidate among the groups of the entries with the first i numbers has fewer pages
 pub record LeastSoFar (g : Geometry) (m : Entries) (group i : ℕ) : Type 0 where
   pub least : EachBefore g m (λ a _. pages_held g m (a / g.p) < pages_held g m group → IsCandidate g m (a / g.p) → ⊥) i
 

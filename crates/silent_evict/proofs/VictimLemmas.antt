@@ -1,4 +1,4 @@
--- What the first least count of the candidates tells.
+-- The meaning of the first least count of the candidates.
 use Rattle.std.proofs.Common.{◌≡◌, ℕ, ◌+◌, ◌-◌, ◌<◌, ◌≤◌, List, [], length, get_or, Option, Some, None, IfSome, IfNone, inl, inr, refl, sym, ◌∙◌, ap, subst, arith}
 use Rattle.std.proofs.lemmas.List.Elements.{All-get_or}
 use Rattle.ft_base.specs.declared.geometry.Geometry.{Geometry}

@@ -1,4 +1,4 @@
--- Which groups may give way, and which of them does.
+-- The groups that may give way, and the group that does.
 use Rattle.std.specs.Prelude.{◌≡◌, ℕ, ◌<◌, ◌≤◌, true, Some}
 use Rattle.std.specs.FinMap.{get}
 use Rattle.ft_base.specs.declared.geometry.Geometry.{Geometry}
@@ -6,7 +6,7 @@ use Rattle.cache_model.specs.declared.entry.Entry.{Entry}
 use Rattle.cache_model.specs.Records.{Entries}
 pub use Rattle.mapping.specs.Candidates.{IsGroupHeld, HasDataBlock, IsClean, IsCandidate, pages_held}
 
--- something of the group is held, and nothing of the group is dirty
+-- some address of the group is held, and none is dirty
 pub record HoldsCleanAlone (g : Geometry) (m : Entries) (group : ℕ) : Type 0 where
   pub held : IsGroupHeld g m group
   pub clean : IsClean g m group
@@ -20,6 +20,6 @@ pub record IsVictim (g : Geometry) (m : Entries) (group : ℕ) : Type 0 where
 abbrev pub IsDirtyAt : Entries → ℕ → Type 0
 IsDirtyAt m a = (e : Entry) × (get m a ≡ Some e) × (e.dirty ≡ true)
 
--- the group may give way, and its data block has fewer held pages than that of the other
+-- the group may give way, and its data block has fewer held pages than the other group's
 abbrev pub GivesWayBefore : Geometry → Entries → ℕ → ℕ → Type 0
 GivesWayBefore g m group other = (pages_held g m group < pages_held g m other) × IsCandidate g m group

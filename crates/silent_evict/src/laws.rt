@@ -1,11 +1,11 @@
-//! Laws of victims that the layers above rest on.
+//! Laws of victims on which the layers above rest.
 ghost use Rattle.std.specs.Prelude.{ℕ, ◌≤◌, ◌-◌, ◌/◌};
 ghost use Rattle.ft_base.specs.declared.geometry.Geometry.{Geometry};
 ghost use Rattle.cache_model.specs.Records.{Entries};
 ghost use Rattle.cache_model.specs.Entries.{IsMap};
 ghost use Rattle.silent_evict.specs.Candidates.{IsCandidate, IsVictim, HoldsCleanAlone, pages_held};
 
-/// A victim is a wholly clean group: something of it is held, and nothing of it is dirty.
+/// A victim is a wholly clean group: some address of it is held, and none is dirty.
 pub fn a_victim_is_wholly_clean()
     ensures { (g : Geometry) (m : Entries) (group : ℕ) → IsVictim g m group → HoldsCleanAlone g m group }
 {}

@@ -45,7 +45,7 @@ pub fn pages_held(map: &Map, group: u64) -> u32
     }
 }
 
-/// Whether something of the group is held in a data block, and nothing of the group is dirty.
+/// Whether some address of the group is held in a data block, and no address of the group is dirty.
 pub fn is_candidate(geometry: &Geometry, map: &Map, group: u64) -> bool
     requires { geometry.now ≡ map.now.geometry }
     ensures { IsTrue result ↔ IsCandidate map.now.geometry map.now.entries group }
@@ -61,7 +61,7 @@ fn gives_way_before(geometry: &Geometry, map: &Map, group: u64, other: u64) -> b
     pages_held(map, group) < pages_held(map, other) && is_candidate(geometry, map, group)
 }
 
-/// Whether the group may give way, and no other that may has fewer held pages in its data block.
+/// Whether the group may give way, and no other group that may give way has fewer held pages in its data block.
 pub fn is_victim(geometry: &Geometry, map: &Map, group: u64) -> bool
     requires { geometry.now ≡ map.now.geometry }
     ensures { IsTrue result ↔ IsVictim map.now.geometry map.now.entries group }

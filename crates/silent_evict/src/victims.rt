@@ -22,7 +22,7 @@ impl Model for Victims {
 }
 
 impl Victims {
-    /// A chooser for maps of this geometry. It takes no memory.
+    /// A chooser for maps of this geometry. It allocates nothing.
     pub fn new(_alloc: Global, geometry: &Geometry) -> Result<Victims, AllocError>
         ensures { IfOk result (λ v. v ≡ geometry.now) }
     {
@@ -31,8 +31,8 @@ impl Victims {
         })
     }
 
-    /// The group that gives way: of those with a data block and nothing dirty, one whose data block has
-    /// the fewest held pages. None exactly where there is no such group. It takes no memory.
+    /// The group that gives way: it has a data block and no dirty address, and no such group has fewer held pages in
+    /// its data block. `None` if there is no such group, and only then. It allocates nothing.
     pub fn victim(&mut self, map: &Map) -> Option<u64>
         requires { self.old ≡ map.now.geometry }
         ensures own { self.new ≡ self.old }

@@ -1,4 +1,4 @@
--- The n buckets of a table among those of its groups, of which no other has an item.
+-- The n buckets of a table among the buckets of its groups; no other bucket has an item.
 use Rattle.std.proofs.Common.{◌≡◌, ℕ, ◌+◌, ◌*◌, ◌^◌, ◌<◌, ◌≤◌, List, ◌++◌, Option, Some, None, length, set, take, drop, sym, ap, ◌∙◌, inl, inr, arith}
 use Rattle.std.specs.Prelude.{is_some, IsSome, option_map}
 use Rattle.std.proofs.lemmas.List.{ext_get_or, get_or-take, get_or-drop, length-drop, get_or_past, get_or-set_other, length-take, length-take-le, length-set, take-append-drop, append-nil}

@@ -1,4 +1,4 @@
--- What a map keeps true through a new key, another value and a removal.
+-- The facts that a map keeps true through a new key, another value and a removal.
 use Rattle.std.proofs.Common.{◌≡◌, ◌≢◌, ℕ, ◌+◌, ◌-◌, ◌<◌, ◌≤◌, ◌⊎◌, min, List, [], Option, Some, None, true, length, set, cond, eqb, refl, sym, ap, ◌∙◌, subst, inl, inr, arith}
 use Rattle.std.specs.Prelude.{is_some}
 use Rattle.std.specs.Ordering.{nat_cmp}
@@ -211,7 +211,7 @@ module _ {V : Type 0} (m : Inside V) (t : PackedTable V) (kept : KeepsTable m.bi
       short
       (omega arith))
 
--- without a key that is nowhere a map is as it is
+-- a map is unchanged by the removal of an absent key
 pub absent_stays : {V : Type 0} (t : PackedTable V) (key : ℕ) → ((b : ℕ) → key_at t.slots b ≢ Some key) → map_of t ≡ map.remove (map_of t) key
 absent_stays t key absent =
     map_of-remove t t key (λ q. elim (cases_eq q key) [

@@ -28,7 +28,7 @@ module _ {V : Type 0} where
       ∙ ap (λ r. items_in (take i us) ++ r) (append-nil u.items.items)
 
   module _ (n : ℕ) (plan : Plan) (us : List (Group V)) where
-    -- what is counted for a new group once the first old groups had their turn
+    -- the items that are counted for a new group once the first old groups had their turn
     abbrev pub counts_by : ℕ → ℕ → ℕ
     counts_by s q = get_or (with_items n plan (items_in (take s us))).counts q 0
 
@@ -153,7 +153,8 @@ module _ {V : Type 0} where
             (rooms_still rooms q (λ some. let wrong : Some g ≡ Some q = sym e ∙ some in ne cc) (all q (omega (arith, inside, long))))
       ]
 
-      -- each list has room for the items whose turn it is: one that fits has it for all, and nothing goes to an heir to come yet
+      -- each list has room for the items whose turn it is. A list that fits has room for all items, and nothing goes to
+      -- an heir that is still to come
       pub turn_fits : (rooms : List ℕ) (now : Plan) (xs : List (ℕ × V)) → now ≡ with_items n plan (items_in (take s us)) → items_in (take (s + 1) us) ≡ items_in (take s us) ++ xs
           → AreRooms rooms counts_in_all heirs (s + 1) → RoomsFit rooms (with_items n now xs).counts
       turn_fits rooms now xs so_far more all = λ q inside.
@@ -223,7 +224,7 @@ heirs_push rooms counts noted heirs h i long new all s q is = elim (cases_lt s i
   ]
 ]
 
--- what is said of each list and its number, and of none past the end
+-- a fact that holds of each list and its number, and of no list past the end
 pub each_push : (P : ℕ → ℕ → Type 0) (rooms : List ℕ) (r i : ℕ) → length rooms ≡ i → P i r → ((q : ℕ) → P q (get_or rooms q 0)) → ((q : ℕ) → P q 0) → (q : ℕ) → P q (get_or (rooms ++ r ∷ []) q 0)
 each_push P rooms r i long new all past q = elim (cases_lt q i) [
   | inl lt ↦ subst (P q) (sym (get_or_append_left rooms (r ∷ []) 0 q (omega (arith, lt, long)))) (all q)

@@ -70,7 +70,7 @@ below_thirty_one need bits small le more =
       | inr ne ↦ omega arith
     ]
 
--- how many buckets there are, by the number of bits that the struct keeps, which is 0 where there are none
+-- how many buckets there are, by the number of bits that the struct keeps, which is 0 if there are none
 pub grew_at_zero : (need bits wide : ℕ) → bits ≡ 0 → wide ≡ 5 → GrewFor need (if eqb bits 0 then 0 else 2 ^ bits) wide
 grew_at_zero need bits wide none five =
     rw (eq-eqb bits 0 none) (subst (λ x. GrewFor need 0 x) (sym five) (grew_from_none need))
@@ -83,7 +83,7 @@ grew_at_some need bits wide some same =
 pub five_or_more : (bits : ℕ) → bits ≡ 0 ⊎ 5 ≤ bits → (bits ≡ 0 → ⊥) → 5 ≤ bits
 five_or_more bits some other = elim some [ inl e ↦ absurd (other e) | inr le ↦ le ]
 
--- the code's test, where `1 << bits` does not wrap
+-- the code's test, when `1 << bits` does not wrap
 pub tested : (need bits : ℕ) → bits ≤ 31 → 3 * (1 * 2 ^ bits % 2 ^ 64) < 4 * need → 3 * 2 ^ bits < 4 * need
 tested need bits few h = let lt : bits < 64 = omega arith in subst (λ x. 3 * x < 4 * need) (one_shl bits 64 lt) h
 

@@ -1,4 +1,4 @@
--- The items of a group's buckets are its list, and the items of the table those of its groups.
+-- The items of a group's buckets are its list, and the items of the table are the items of its groups.
 use Rattle.std.proofs.Common.{◌≡◌, ℕ, zero, suc, ◌+◌, ◌^◌, ◌<◌, List, [], ◌∷◌, ◌++◌, Option, length, take, map, count_ones, refl, sym, ap, ◌∙◌, subst, inl, inr, arith, add-one}
 use Rattle.std.specs.Prelude.{slice_get}
 use Rattle.std.specs.Int.{bit_at}

@@ -76,7 +76,7 @@ module _ {V : Type 0} where
   unfolding map_of
   len_of-items t once = len-from_entries (items_of t.slots) (IsDistinct-items_of t.slots once)
 
-  -- ---- what the fields keep gives what holds of every map
+  -- ---- the facts that the fields keep give the facts that hold of every map
   module _ (bits len spare blanks : ℕ) (touched : Touched) (groups : List (Group V)) (kept : KeepsTable bits len spare blanks touched groups) where
     pub kept_long : length (slots_of (buckets_for bits) groups) ≡ buckets_for bits
     kept_long = elim (cases_eq bits 0) [
@@ -92,7 +92,7 @@ module _ {V : Type 0} where
     pub kept_none : bits ≡ 0 → length (slots_of (buckets_for bits) groups) ≡ 0
     kept_none none = kept_long ∙ no_buckets bits none
 
-    -- four places a list, and what may be free beyond, are one for each 8 buckets
+    -- four places a list, and the free places that it may have beyond them, are one for each 8 buckets
     pub kept_few : more_free (buckets_for bits) + 4 * lists_for (buckets_for bits) ≡ buckets_for bits / 8
     unfolding more_free
     kept_few = elim (cases_eq bits 0) [
@@ -102,7 +102,7 @@ module _ {V : Type 0} where
           omega (arith, (sized bits size).least, some_buckets bits (omega arith))
     ]
 
-    -- eight for each two lists are no more
+    -- eight for each two lists are at most as many
     pub kept_pairs : 8 * (lists_for (buckets_for bits) / 2) ≤ more_free (buckets_for bits)
     unfolding more_free
     kept_pairs = elim (cases_eq bits 0) [
@@ -141,7 +141,7 @@ module _ {V : Type 0} where
     pub kept_free : 0 < bits → len < 2 ^ bits
     kept_free some = omega (arith, kept.room, some_buckets bits some, pow_pos bits)
 
-    -- where there are buckets, one is free
+    -- if there are buckets, one is free
     pub kept_free_bucket : (us : List (Group V)) → us ≡ groups → 0 < bits → HasFreeBucket bits us
     kept_free_bucket us is some =
         record {
@@ -151,7 +151,7 @@ module _ {V : Type 0} where
           room = omega (arith, kept_free some, kept.counted, ap length (λ i. items_of (slots_of (some_buckets bits some i) (sym is i))));
         }
 
--- ---- what the lists of a table may have beyond four free places each
+-- ---- the free places beyond four that the lists of a table may have
 module _ (n : ℕ) (size : IsSized n) where
   pub more_free-is : more_free n + 4 * lists_for n ≡ n / 8
   unfolding more_free

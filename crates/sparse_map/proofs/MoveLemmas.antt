@@ -1,4 +1,4 @@
--- A list of items as it is moved into a map, one item and one group at a time; and groups and rooms anew.
+-- A list of items that is moved into a map, one item and one group at a time; and groups and rooms anew.
 use Rattle.std.proofs.Common.{◌≡◌, ℕ, ◌+◌, ◌-◌, ◌*◌, ◌^◌, ◌≤◌, min, List, [], ◌∷◌, ◌++◌, Option, Some, None, true, false, length, cond, refl, sym, ap, ◌∙◌, subst, inl, inr, arith}
 use Rattle.std.specs.Prelude.{is_some}
 use Rattle.std.specs.Ordering.{nat_cmp}
@@ -22,7 +22,7 @@ use Rattle.sparse_map.proofs.BucketLemmas.{same_table, table_same}
 use Rattle.sparse_map.proofs.SlotLemmas.{find_here, find_later, is_some-key_at}
 
 module _ {V : Type 0} where
-  -- ---- a group's items and those of the groups after it
+  -- ---- a group's items, and the items of the groups after it
   find-append : (q : ℕ) (xs ys : List (ℕ × V)) → find nat_cmp q (xs ++ ys) ≡ cond (is_some (find nat_cmp q xs)) (find nat_cmp q xs) (find nat_cmp q ys)
   find-append q [] ys = refl
   find-append q ((k, v) ∷ xs) ys = elim (cases_eq q k) [
@@ -60,7 +60,7 @@ module _ {V : Type 0} where
     | inr ne ↦ find_later q k v xs ne ∙ distinct_apart xs ys q d.1 there
   ]
 
-  -- what keys have before and after the items of xs went in
+  -- the values that keys have before and after the items of xs went in
   module _ (before after : ℕ → Option V) (xs ys : List (ℕ × V)) (d : IsDistinct (xs ++ ys)) (moved : (q : ℕ) → after q ≡ after_items xs (before q) q) where
     pub group_fresh : ((q : ℕ) → is_some (find nat_cmp q (xs ++ ys)) ≡ true → before q ≡ None) → (q : ℕ) → is_some (find nat_cmp q ys) ≡ true → after q ≡ None
     group_fresh fresh q there =

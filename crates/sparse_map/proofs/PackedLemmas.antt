@@ -153,6 +153,6 @@ module _ {V : Type 0} where
       sym (is_some-key_at s b) ∙ some b (walk.all b inside (omega (arith, below, end)))) in
       omega arith
 
-  -- no bucket has the key: the first free one from its home on is where it would go
+  -- no bucket has the key: it would go into the first free bucket from its home on
   pub free_for_new : (s : List (Option (ℕ × V))) (key b : ℕ) → IsFirstFree s (home (length s) key) b → ((q : ℕ) → key_at s q ≢ Some key) → IsFreeFor s key b
   free_for_new s key b first absent = record { inside = first.inside; free = first.free; reached = first.passed; absent = absent }

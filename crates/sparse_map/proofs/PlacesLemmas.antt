@@ -13,7 +13,7 @@ use Rattle.sparse_map.specs.Trimmed.{MayBeTouched, IsTrimmed, IsReady}
 use Rattle.sparse_map.specs.Moved.{items_in}
 use Rattle.sparse_map.specs.Places.{list_size, sizes_of, places_of, extra, lacks, sum_untouched, loose_of, lacking, past_most, past_of, IsBoundedBy}
 
--- ---- a list that has no place for so many items more
+-- ---- a list that has no place for n more items
 pub lacks-no : (n : ℕ) (x : ℕ × ℕ) → min 64 (x.0 + n) ≤ x.1 → lacks n x ≡ 0
 unfolding lacks
 lacks-no n x le = ap (λ b. cond b 1 0) (le-ltb x.1 (min 64 (x.0 + n)) le)
@@ -80,7 +80,7 @@ module _ (f : ℕ × ℕ → ℕ) (s : List (ℕ × ℕ)) (i : ℕ) (x : ℕ × 
   unfolding sum_untouched
   untouched-less le = omega (arith, one-set, le)
 
-  -- the sum by f after the change and that by a larger h before
+  -- the sum by f after the change, and the sum by a larger h before it
   sum-next : (h : ℕ × ℕ → ℕ) (d : ℕ) → ((y : ℕ × ℕ) → f y ≤ h y) → f (64, 64) ≡ 0 → h (64, 64) ≡ 0 → f x + d ≤ h (get_or s i (64, 64)) → sum_by f (set s i x) + d ≤ sum_by h s
   sum-next h d less none none_2 le =
       let rest = sum_by-le-sum_by f h (set s i (64, 64)) less in
@@ -92,7 +92,7 @@ module _ (f : ℕ × ℕ → ℕ) (s : List (ℕ × ℕ)) (i : ℕ) (x : ℕ × 
 set_back : (s : List (ℕ × ℕ)) (i : ℕ) (x y : ℕ × ℕ) → y ≡ get_or s i (64, 64) → set (set s i x) i y ≡ s
 set_back s i x y is = set-set s i x y ∙ ap (set s i) is ∙ set-get_or s i (64, 64)
 
--- with more groups that may have been touched no more is counted
+-- if more groups may have been touched, no more is counted
 pub untouched-wider : (f : ℕ × ℕ → ℕ) (s : List (ℕ × ℕ)) (g h : Touched) → ((i : ℕ) → MayBeTouched g i → MayBeTouched h i) → sum_untouched f h s ≤ sum_untouched f g s
 unfolding sum_untouched
 untouched-wider f s Nowhere Nowhere more = omega arith
@@ -150,7 +150,7 @@ pub no-untouched : (f : ℕ × ℕ → ℕ) → sum_untouched f Nowhere [] ≡ 0
 unfolding sum_untouched
 no-untouched f = refl
 
--- ---- how many lists have no place for n items more
+-- ---- how many lists have no place for n more items
 pub lacking-at_most : (n : ℕ) (s : List (ℕ × ℕ)) → lacking n Nowhere s ≤ length s
 unfolding sum_untouched
 lacking-at_most n [] = omega arith
@@ -165,7 +165,7 @@ pub past-le : (x y : ℕ × ℕ) → x.1 ≤ max y.1 65 → past_most x ≤ past
 unfolding past_most
 past-le x y le = omega (arith, le)
 
--- where there are none, no more than 65 for each list
+-- if there are no places past 65, each list has at most 65
 pub past-few : (s : List (ℕ × ℕ)) → past_of s ≡ 0 → places_of s ≤ 65 * length s
 unfolding places_of sum_untouched past_most
 past-few [] none = omega arith
@@ -175,7 +175,7 @@ past-few (x ∷ s) none =
     let later : past_of s ≡ 0 = omega (arith, past, none) in
     omega (arith, places, past, none, past-few s later)
 
--- no blank list is needed for one new key where no list is full, nor where there is one for each group
+-- no blank list is needed for one new key if no list is full, or if there is a blank list for each group
 pub stocked_for : (spare blanks : ℕ) (s : List (ℕ × ℕ)) → (min spare (length s) ≤ blanks) ⊎ ((spare ≤ 1) × (lacking 1 Nowhere s ≡ 0)) → min spare (lacking spare Nowhere s) ≤ blanks
 stocked_for spare blanks s enough = elim enough [
   | inl all ↦ omega (arith, all, lacking-at_most spare s)
@@ -185,7 +185,7 @@ stocked_for spare blanks s enough = elim enough [
   ]
 ]
 
--- blank lists for one new key stay enough where no list becomes full
+-- blank lists for one new key stay enough if no list becomes full
 pub stocked_still : (spare blanks blanks_2 : ℕ) (s r : List (ℕ × ℕ)) → spare ≤ 1 → lacking 1 Nowhere r ≤ lacking 1 Nowhere s → min spare (lacking spare Nowhere s) ≤ blanks → blanks ≤ blanks_2 → min spare (lacking spare Nowhere r) ≤ blanks_2
 stocked_still spare blanks blanks_2 s r one fewer stocked more = elim (cases_eq spare 1) [
   | inl e ↦
@@ -278,7 +278,7 @@ module _ {V : Type 0} where
       let later : sum_by f (sizes_of us) ≡ 0 = none-counted f P none us (All-tail P u us all) in
       omega (arith, sum_by-cons f (list_size u) (sizes_of us), here, later)
 
-  -- the places of all lists are those of the items, four for each list, and the loose ones
+  -- the places of all lists are the items, four for each list, and the loose places
   pub places-bound : (us : List (Group V)) → places_of (sizes_of us) ≤ length (items_in us) + 4 * length us + loose_of Nowhere (sizes_of us)
   unfolding places_of sum_untouched sizes_of extra
   places-bound [] = omega arith

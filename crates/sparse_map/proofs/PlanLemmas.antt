@@ -1,4 +1,4 @@
--- Where keys come to stand that go in one after another, and what is counted of them.
+-- The buckets that keys take when they go in one after another, and how they are counted.
 use Rattle.std.proofs.Common.{◌≡◌, ℕ, zero, suc, ◌+◌, ◌/◌, ◌<◌, ◌≤◌, Bool, true, false, List, [], ◌∷◌, ◌++◌, Option, Some, None, length, get_or, set, map, refl, sym, ap, ◌∙◌, subst, inl, inr, arith}
 use Rattle.std.specs.Prelude.{is_some, IsSome, replicate}
 use Rattle.std.specs.Vec.{vec_len, vec_capacity}

@@ -1,4 +1,4 @@
--- How many occupied buckets lie below one, and how that changes where one bit changes.
+-- How many occupied buckets lie below a bucket, and how that number changes when one bit changes.
 use Rattle.std.proofs.Common.{◌≡◌, ◌≢◌, ℕ, zero, suc, ◌+◌, ◌-◌, ◌*◌, ◌/◌, ◌%◌, ◌^◌, ◌<◌, ◌≤◌, sym, ap, ◌∙◌, subst, inl, inr, arith, bit_and, count_ones}
 use Rattle.std.specs.Int.{bit_at, bit_not, trailing_zeros, w64}
 use Rattle.std.proofs.lemmas.Nat.{ones_cat, mod-pow-add, mod_below, pow_pos, one_shl, and_mask, ones_le_self, zero_from_ones, ones-le, shr_le, shr-shr}
@@ -7,7 +7,7 @@ use Rattle.std.proofs.lemmas.Bool.{cases_lt, cases_eq}
 use Rattle.std.proofs.Math.Nat.{mod-eq_of_lt}
 use Rattle.sparse_map.specs.Slots.{rank}
 
--- as the code computes it
+-- the rank as the code computes it
 pub rank_by_mask : (n k : ℕ) → k < 64 → count_ones (bit_and n (1 * 2 ^ k % 2 ^ 64 - 1)) ≡ rank n k
 unfolding rank
 rank_by_mask n k lt = ap (λ x. count_ones (bit_and n (x - 1))) (one_shl k 64 lt) ∙ ap count_ones (and_mask n k)
@@ -43,7 +43,7 @@ rank_same m n (suc k) same =
     let one : suc k ≡ k + 1 = omega arith in
     ap (rank m) one ∙ rank_suc m k ∙ (λ i. before i + here i) ∙ sym (rank_suc n k) ∙ ap (rank n) (sym one)
 
--- the numbers differ in bit k alone, which m has: from k on it counts one more
+-- the numbers differ only in bit k, which m has: from k on m counts one more
 pub rank_one_more : (m n k : ℕ) → ((i : ℕ) → i ≢ k → bit_at m i ≡ bit_at n i) → bit_at m k ≡ 1 → bit_at n k ≡ 0
     → (j : ℕ) → k < j → rank m j ≡ rank n j + 1
 rank_one_more m n k same set clear zero lt = absurd (omega arith)
@@ -91,7 +91,7 @@ rank_at_most n k fits lt = omega (arith, rank_grows n k 64 (omega arith), rank_o
 pub ones_at_most_64 : (n : ℕ) → n < 2 ^ 64 → count_ones n ≤ 64
 ones_at_most_64 n lt = ones-le 64 n lt
 
--- ---- the free buckets from one on, as the code has them
+-- ---- the free buckets from a bucket on, as the code has them
 abbrev pub free_bits : ℕ → ℕ → ℕ
 free_bits n from = bit_not w64 n / 2 ^ from
 

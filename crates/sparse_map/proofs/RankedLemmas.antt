@@ -1,4 +1,4 @@
--- The rank of a bucket: as a look-up goes on, and as items change.
+-- The rank of a bucket, while a look-up goes on and while items change.
 use Rattle.std.proofs.Common.{◌≡◌, ◌≢◌, ℕ, zero, suc, ◌+◌, ◌-◌, ◌*◌, ◌++◌, count_ones, ◌/◌, ◌%◌, ◌<◌, ◌≤◌, List, [], ◌∷◌, Option, Some, None, length, get_or, set, cond, eqb, refl, sym, ap, ◌∙◌, subst, inl, inr, arith}
 use Rattle.std.specs.Prelude.{is_some, IsSome, option_map}
 use Rattle.std.specs.Int.{bit_at}
@@ -20,12 +20,12 @@ use Rattle.sparse_map.proofs.BucketLemmas.{same_slot, key_in_all, key_within}
 use Rattle.sparse_map.proofs.TableLemmas.{length-slots_in, length-all_slots, slot_in_group, slot_of_bucket}
 
 module _ {V : Type 0} where
-  -- counted in the group that an index read
+  -- the rank, counted in the group that an index read
   pub rank_read : (us : List (Group V)) (b place : ℕ) (u d : Group V) → b < 64 * length us → u ≡ get_or us (b / 64) d → place ≡ rank u.occupied (b % 64) → IsRankOf us b place
   rank_read us b place u d inside is at =
       λ e. at ∙ ap (λ (x : Group V). rank x.occupied (b % 64)) (is ∙ get_or_default us (b / 64) d e (omega arith))
 
-  -- of a bucket that has a key
+  -- the rank of a bucket that has a key
   pub seated : (n : ℕ) (us : List (Group V)) (b place key : ℕ) → key_at (slots_of n us) b ≡ Some key → IsRankOf us b place → IsSeated us b place
   seated n us b place key is at =
       record {
@@ -34,7 +34,7 @@ module _ {V : Type 0} where
         rank = at;
       }
 
-  -- and the other way round
+  -- the place is the rank in the group that an index read
   pub rank_here : (us : List (Group V)) (b place : ℕ) (u d : Group V) → IsRankOf us b place → u ≡ get_or us (b / 64) d → place ≡ rank u.occupied (b % 64)
   rank_here us b place u d at is = at d ∙ ap (λ (x : Group V). rank x.occupied (b % 64)) (sym is)
 
@@ -80,7 +80,7 @@ module _ {V : Type 0} where
       subst (λ x. IsRankOf us x (cond (eqb (x % 64) 0) 0 (place + 1))) (sym on) (rank_next us n b place long inside at some) in
       subst (λ x. IsRankOf us nb x) (sym is) there
 
-  -- where a look-up ended at a bucket with the key, or at a free one
+  -- a look-up ended at a bucket with the key, or at a free one
   pub key_found : (s : List (Option (ℕ × V))) (key b : ℕ) (p : Place) → IsPlaceOf s key p → p ≡ Found b → key_at s b ≡ Some key
   key_found s key b p place is = subst (λ x. IsPlaceOf s key x) is place
 

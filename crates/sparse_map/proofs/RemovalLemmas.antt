@@ -1,4 +1,5 @@
--- The walk of a removal as it is defined, beside the walk as the code does it, which keeps the item that goes away at the hole.
+-- The walk of a removal by its definition, beside the walk of the code, which keeps the item that is removed at the
+-- hole.
 use Rattle.std.proofs.Common.{◌≡◌, ◌≢◌, ℕ, suc, ◌<◌, ◌≤◌, List, Option, Some, None, length, set, leb, true, sym, ap, ◌∙◌}
 use Rattle.std.specs.Prelude.{is_some}
 use Rattle.std.proofs.lemmas.List.{set-set}

@@ -1,4 +1,4 @@
--- What a reservation keeps and makes.
+-- The facts that a reservation keeps and makes.
 use Rattle.std.proofs.Common.{◌≡◌, ◌≢◌, ℕ, ◌+◌, ◌*◌, ◌^◌, ◌<◌, ◌≤◌, max, List, Option, Some, None, Result, Ok, Err, length, cond, leb, eqb, refl, sym, ap, ◌∙◌, subst, inl, inr, arith}
 use Rattle.std.specs.Prelude.{is_some, OnOk, OnErr}
 use Rattle.std.specs.Ordering.{nat_cmp}
@@ -95,7 +95,7 @@ module _ {V : Type 0} where
   sound_either (Err e) t u sound ok err = subst (λ x. IsSound x) (sym err) sound
   sound_either (Ok x) t u sound ok err = ok
 
-  -- ---- where the buckets doubled, or nothing changed
+  -- ---- if the buckets doubled, or nothing changed
   module _ {T E : Type 0} (r : Result T E) (t u : PackedTable V) (err : OnErr r (u ≡ t)) where
     pub loose_either : OnOk r (u.loose ≡ 0) → u.loose ≤ t.loose
     loose_either ok = by_case r err ok where

@@ -1,4 +1,4 @@
--- Sums over the lists of groups, by their numbers: as lists are handed on, and as the sizes of the lists give them.
+-- Sums over the lists of groups, by their numbers: while lists are handed on, and from the sizes of the lists.
 use Rattle.std.proofs.Common.{◌≡◌, ℕ, zero, suc, ◌+◌, ◌-◌, ◌<◌, ◌≤◌, Bool, List, [], ◌∷◌, ◌++◌, Option, Some, None, length, get_or, set, take, refl, sym, ap, ◌∙◌, subst, inl, inr, arith}
 use Rattle.std.specs.List.{sum_by}
 use Rattle.std.specs.Vec.{vec_capacity}
@@ -13,7 +13,7 @@ use Rattle.sparse_map.proofs.HandedOn.{handed_on}
 use Rattle.sparse_map.specs.Places.{list_size, sizes_of, places_of, extra, sum_untouched, loose_of, past_most, past_of}
 use Rattle.sparse_map.proofs.PlanLemmas.{len_at, room_at}
 
--- the sum of f over the first m numbers, each with the places of that list
+-- the sum of f over the first m numbers, each with the places of its list
 abbrev pub over_rooms : (ℕ → ℕ → ℕ) → List ℕ → ℕ → ℕ
 over_rooms f rooms zero = 0
 over_rooms f rooms (suc m) = over_rooms f rooms m + f m (get_or rooms m 0)
@@ -22,11 +22,11 @@ over_rooms f rooms (suc m) = over_rooms f rooms m + f m (get_or rooms m 0)
 abbrev pub places_at : ℕ → ℕ → ℕ
 places_at q places = places
 
--- those past 65
+-- the places past 65
 abbrev pub past_at : ℕ → ℕ → ℕ
 past_at q places = places - 65
 
--- the free ones beyond four, where so many items are counted for each list
+-- the free places beyond four, if this many items are counted for each list
 abbrev pub loose_at : List ℕ → ℕ → ℕ → ℕ
 loose_at counts q places = beyond_four places (get_or counts q 0)
 
@@ -73,12 +73,12 @@ module _ (f : ℕ → ℕ → ℕ) where
   over_rooms-handed None places more rooms m most = omega arith
   over_rooms-handed (Some g) places more rooms m most = omega (arith, over_rooms-set rooms g places m, most g refl)
 
--- what a list brings
+-- the free places that a list brings
 pub brings : (counts : List ℕ) (heir : Option ℕ) (places g : ℕ) → heir ≡ Some g → loose_at counts g places ≤ brought counts heir places
 brings counts None places g e = absurd (let wrong : None ≡ Some g = e in cc)
 brings counts (Some h) places g e = let same : beyond_four places (get_or counts h 0) ≡ beyond_four places (get_or counts g 0) = ap (λ (o : Option ℕ). brought counts o places) e in omega (arith, same)
 
--- ---- what the first old groups hand on
+-- ---- the free places that the first old groups hand on
 pub brought_none : (rooms counts : List ℕ) (heirs : List (Option ℕ)) → all_brought rooms counts heirs 0 ≡ 0
 unfolding all_brought
 brought_none rooms counts heirs = refl
@@ -94,7 +94,7 @@ brought_same rooms counts heirs others (suc m) each =
     let here : brought counts (get_or heirs m None) (get_or rooms m 0) ≡ brought counts (get_or others m None) (get_or rooms m 0) = ap (λ o. brought counts o (get_or rooms m 0)) (each m (omega arith)) in
     omega (arith, here, brought_same rooms counts heirs others m (λ s lt. each s (omega (arith, lt))))
 
--- those that keep their list, with one old group more
+-- the old groups that keep their list, with one more old group
 pub kept_push : (rooms counts : List ℕ) (noted : List Bool) (heirs : List (Option ℕ)) (h : Option ℕ) (i most : ℕ) → length heirs ≡ i
     → (h ≡ None → IsPassedOver counts noted i (get_or rooms i 0) (most - all_brought rooms counts heirs i))
     → ((s : ℕ) → s < i → get_or heirs s None ≡ None → IsPassedOver counts noted s (get_or rooms s 0) (most - all_brought rooms counts heirs s))

@@ -63,7 +63,7 @@ steps_join n a b c la lb lc short =
       ]
     ]
 
--- where b lies on the way from a to c
+-- if b lies on the way from a to c
 pub steps_over : (n a b c : ℕ) → a < n → b < n → c < n → steps n a b ≤ steps n a c → steps n a b + steps n b c ≡ steps n a c
 steps_over n a b c la lb lc le =
     elim (steps_cases n a b) [
@@ -77,8 +77,8 @@ steps_over n a b c la lb lc le =
       ]
     ]
 
--- ---- the buckets from b on that are reached without going round
--- what lies on the way from b and fewer than d steps on is one of the d buckets from b on
+-- ---- the buckets from b on that are reached without going round. A bucket on the way from b, fewer than d steps on,
+-- is one of the d buckets from b on
 pub steps_near : (n a b d q : ℕ) → a < n → b + d ≤ n → q < n → steps n a b ≤ steps n a q → steps n a q < steps n a b + d → (b ≤ q) × (q < b + d)
 steps_near n a b d q la ld lq le lt =
     elim (steps_cases n a b) [

@@ -1,4 +1,4 @@
--- The walk of a removal: the item that goes away stands at the hole, and the items after it are looked at in turn.
+-- The walk of a removal: the item that is removed stands at the hole, and the items after it are looked at in turn.
 use Rattle.std.proofs.Common.{◌≡◌, ◌≢◌, ℕ, ◌+◌, ◌<◌, ◌≤◌, List, Option, Some, None, length, set, refl, sym, ap, ◌∙◌, subst, inl, inr, arith}
 use Rattle.std.specs.Prelude.{is_some, IsSome, option_map}
 use Rattle.std.specs.Ordering.{nat_cmp}
@@ -14,7 +14,7 @@ use Rattle.sparse_map.proofs.HomeLemmas.{home_below}
 use Rattle.sparse_map.specs.Probe.{IsShifted}
 
 module _ {V : Type 0} where
-  -- the packed law, but for the item that goes away
+  -- the packed law for all items but the one that is removed
   pub record PackedBut (n : ℕ) (s : List (Option (ℕ × V))) (hole : ℕ) : Type 0 where
     pub once : Once s
     pub reached : (b key q : ℕ) → b ≢ hole → key_at s b ≡ Some key → q < n → steps n (home n key) q ≤ steps n (home n key) b → IsSome (key_at s q)
@@ -99,7 +99,7 @@ module _ {V : Type 0} where
             ];
       }
 
-  -- the next item moves to the hole, over which its way led, and leaves the hole where it stood
+  -- the next item moves to the hole, over which its way led, and leaves the hole in its own bucket
   module _ (n : ℕ) (s : List (Option (ℕ × V))) (start hole at step key : ℕ) (long : length s ≡ n) (inside : start < n) (walk : Shifting n s start hole at step) (more : step < n)
       (is : key_at s (next n at) ≡ Some key) (over : steps n (home n key) hole ≤ steps n (home n key) (next n at)) where
     to : ℕ

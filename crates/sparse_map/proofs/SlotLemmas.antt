@@ -1,4 +1,4 @@
--- The items of a table of buckets, what is found among them, and how one change shows there.
+-- The items of a table of buckets, the items that are found among them, and how one change shows there.
 use Rattle.std.proofs.Common.{◌≡◌, ◌≢◌, ℕ, zero, suc, ◌+◌, ◌<◌, ◌≤◌, true, List, [], ◌∷◌, Option, Some, None, length, set, cond, eqb, refl, sym, ap, ◌∙◌, inl, inr, arith, add-one, zero-add}
 use Rattle.std.specs.Prelude.{is_some, IsSome, option_map}
 use Rattle.std.specs.Ordering.{nat_cmp, eq_by_cmp}
@@ -11,7 +11,7 @@ use Rattle.std.proofs.lemmas.Bool.{cases_lt, cases_eq, eq-eqb, ne_eqb, cond-true
 use Rattle.std.proofs.lemmas.Option.{same_Some, some_pair_parts}
 use Rattle.sparse_map.specs.Slots.{slot_at, key_at, items_of, exchanged}
 
--- ---- what is found among items
+-- ---- the items that are found
 module _ {V : Type 0} where
   pub find_here : (q k : ℕ) (v : V) (es : List (ℕ × V)) → q ≡ k → find nat_cmp q ((k, v) ∷ es) ≡ Some v
   find_here q k v es e = cond-true (eq_by_cmp nat_cmp q k) _ _ (unsigned_tied q k ∙ eq-eqb q k e)
@@ -31,7 +31,7 @@ module _ {V : Type 0} where
   unfolding items_of
   items_of-nil = refl
 
-  -- buckets of which none is occupied
+  -- buckets none of which is occupied
   pub items_of-free : (s : List (Option (ℕ × V))) → ((b : ℕ) → slot_at s b ≡ None) → items_of s ≡ []
   items_of-free [] free = items_of-nil
   items_of-free (None ∷ s) free = items_of-none s ∙ items_of-free s (λ b. free (suc b))
@@ -83,7 +83,7 @@ module _ {V : Type 0} where
     | inr past ↦ absurd (false≢true (sym (ap is_some (get_or_past s b None past)) ∙ some))
   ]
 
-  -- ---- tables where no key stands twice
+  -- ---- tables in which no key stands twice
   abbrev pub Once : List (Option (ℕ × V)) → Type 0
   Once s = (a b key : ℕ) → key_at s a ≡ Some key → key_at s b ≡ Some key → a ≡ b
 
@@ -158,7 +158,7 @@ module _ {V : Type 0} where
     exchanged_elsewhere c na nb =
         get_or-set_other (set s a (slot_at s b)) b c (slot_at s a) None nb ∙ get_or-set_other s a c (slot_at s b) None na
 
-    -- where the item that stands in bucket c after the exchange stood before, and the other way round
+    -- the bucket, before the exchange, of the item in bucket c after it, and the other way round
     pub partner : ℕ → ℕ
     partner c = cond (eqb c a) b (cond (eqb c b) a c)
 
@@ -229,7 +229,7 @@ module _ {V : Type 0} (s : List (Option (ℕ × V))) (b : ℕ) (o : Option (ℕ 
   pub slot_at-set_other : (c : ℕ) → c ≢ b → slot_at (set s b o) c ≡ slot_at s c
   slot_at-set_other c ne = get_or-set_other s b c o None ne
 
-  -- an item of another key than those of the old and the new item stays
+  -- an item stays if its key is neither the old item's nor the new item's
   pub WithinAt-set : (q : ℕ) → ((v : V) → slot_at s b ≢ Some (q, v)) → WithinAt q s (set s b o)
   WithinAt-set q other c v is = elim (cases_eq c b) [
     | inl e ↦ absurd (other v (sym (ap (slot_at s) e) ∙ is))
@@ -242,7 +242,7 @@ module _ {V : Type 0} (s : List (Option (ℕ × V))) (b : ℕ) (o : Option (ℕ 
     | inr ne ↦ (c, sym (slot_at-set_other c ne) ∙ is)
   ]
 
-  -- no key stands twice where the new one stands nowhere else
+  -- no key stands twice if the new key stands nowhere else
   pub Once-set : Once s → ((q c : ℕ) → c ≢ b → option_map (λ e. e.0) o ≡ Some q → key_at s c ≢ Some q) → Once (set s b o)
   Once-set once new c d key kc kd = elim (cases_eq c b) [
     | inl ec ↦ elim (cases_eq d b) [
@@ -259,7 +259,7 @@ module _ {V : Type 0} (s : List (Option (ℕ × V))) (b : ℕ) (o : Option (ℕ 
     ]
   ]
 
--- what is found after a key went into a free bucket, got another value, or went away
+-- the items that are found after a key went into a free bucket, got another value, or was removed
 module _ {V : Type 0} (s : List (Option (ℕ × V))) (b k : ℕ) (once : Once s) where
   apart_key : (q : ℕ) (v w : V) → q ≢ k → ◌≡◌ {A = Option (ℕ × V)} (Some (k, w)) (Some (q, v)) → ⊥
   apart_key q v w ne is = ne (sym (some_pair_parts k q w v is).0)

@@ -106,7 +106,7 @@ module _ {V : Type 0} where
       let here : is_some (find nat_cmp e.0 (e ∷ [])) ≡ true = ap is_some (find_here e.0 e.0 e.1 [] refl) in
       false≢true (sym (ap is_some (ready.fresh e.0 here)) ∙ found_of_bucket (slots_of n us) b e.0 at.0 at.1)
 
-  -- the first free bucket from its home on is where it goes
+  -- the key goes into the first free bucket from its home on
   pub new_place : (n : ℕ) (us : List (Group V)) (e : ℕ × V) (at b : ℕ) → IsSized n → CanTake n us (e ∷ []) → at ≡ home n e.0 → IsFirstFree (slots_of n us) at b → IsFreeFor (slots_of n us) e.0 b
   new_place n us e at b size ready is first =
       free_for_new (slots_of n us) e.0 b (subst (λ h. IsFirstFree (slots_of n us) h b) (is ∙ ap (λ m. home m e.0) (sym (length-table n us size ready.table))) first) (not_there n us e ready)

@@ -1,4 +1,4 @@
--- What a contract sees of a map, by its fields.
+-- The parts of a map that a contract sees, by its fields.
 use Rattle.std.proofs.Common.{◌≡◌, ◌+◌, ◌-◌, ◌*◌, ◌%◌, ◌^◌, sym, ap, ◌∙◌, inl, inr, arith}
 use Rattle.std.specs.Vec.{vec_len}
 use Rattle.sparse_map.specs.declared.map.SparseMap.TheInside.{Inside}

@@ -17,7 +17,7 @@ module _ {V : Type 0} where
   unfoldable pub all_slots : List (Group V) → List (Option (ℕ × V))
   all_slots = flat_map slots_in
 
-  -- the first n of them: those of a table of n buckets, which uses half of its group where there are 32
+  -- the first n of these buckets. They are the buckets of a table of n buckets, which uses half of its group if n is 32
   unfoldable pub slots_of : ℕ → List (Group V) → List (Option (ℕ × V))
   slots_of n groups = take n (all_slots groups)
 

@@ -1,4 +1,4 @@
--- A list of items as it is moved into groups.
+-- A list of items that is moved into groups.
 use Rattle.std.specs.Prelude.{◌≡◌, ℕ, ◌+◌, ◌<◌, List, [], ◌∷◌, length, Option, None, IsSome, is_some, if◌then◌else◌}
 use Rattle.std.specs.Ordering.{nat_cmp}
 use Rattle.std.specs.FinMap.{find}
@@ -15,7 +15,7 @@ module _ {V : Type 0} where
   IsDistinct [] = Unit {0}
   IsDistinct (e ∷ es) = (find nat_cmp e.0 es ≡ None) × IsDistinct es
 
-  -- what a key has after the items went into a map in which it had `old`
+  -- the value of a key after the items went into a map in which it had `old`
   abbrev pub after_items : List (ℕ × V) → Option V → ℕ → Option V
   after_items es old q = if is_some (find nat_cmp q es) then find nat_cmp q es else old
 
@@ -23,7 +23,7 @@ module _ {V : Type 0} where
   abbrev pub items_in : List (Group V) → List (ℕ × V)
   items_in us = flat_map (λ u. u.items.items) us
 
-  -- n buckets take these items, whose keys they don't have: there are free buckets
+  -- n buckets take these items, whose keys they don't have; enough of the buckets are free
   pub record CanTake (n : ℕ) (groups : List (Group V)) (items : List (ℕ × V)) : Type 0 where
     pub table : IsTable n groups
     pub packed : IsPacked (slots_of n groups)
@@ -31,7 +31,7 @@ module _ {V : Type 0} where
     pub distinct : IsDistinct items
     pub fresh : (q : ℕ) → IsSome (find nat_cmp q items) → find nat_cmp q (items_of (slots_of n groups)) ≡ None
 
-  -- they have taken them, each at the first free bucket from its home on
+  -- the buckets have taken these items, each at the first free bucket from its home on
   pub record HasTaken (n : ℕ) (old new : List (Group V)) (items : List (ℕ × V)) : Type 0 where
     pub found : (q : ℕ) → find nat_cmp q (items_of (slots_of n new)) ≡ after_items items (find nat_cmp q (items_of (slots_of n old))) q
     pub packed : IsPacked (slots_of n new)

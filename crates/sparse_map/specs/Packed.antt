@@ -1,4 +1,4 @@
--- The packed law, and what a contract sees of a `SparseMap`.
+-- The packed law, and the parts of a `SparseMap` that a contract sees.
 use Rattle.std.specs.Prelude.{◌≡◌, ℕ, ◌+◌, ◌-◌, ◌*◌, ◌/◌, ◌^◌, ◌<◌, ◌≤◌, min, max, List, length, Option, Some, IsSome, refl}
 use Rattle.std.specs.Ordering.{nat_cmp}
 use Rattle.std.specs.FinMap as map
@@ -14,10 +14,10 @@ pub record IsPacked {V : Type 0} (slots : List (Option (ℕ × V))) : Type 0 whe
       → steps (length slots) (home (length slots) key) q ≤ steps (length slots) (home (length slots) key) b
       → IsSome (key_at slots q)
 
--- the buckets in order, each empty or with a key and its value, and how many new keys there is room for; of the memory the places of
--- the groups' lists, the blank lists of 64 places that are kept ready, and the free places beyond four for each 32 buckets, in all,
--- that removals may have left in lists that weren't touched; and the places that old and new lists had, all together, as the buckets
--- doubled last
+-- the buckets in order, each empty or with a key and its value, and how many new keys there is room for. Then the
+-- memory: the places of the groups' lists, and the blank lists of 64 places that are kept ready. `loose` has the free
+-- places beyond four for each 32 buckets, in all, that removals may have left in lists that weren't touched. `peak` has
+-- the places of old and new lists, all together, when the buckets doubled last
 pub record PackedTable (V : Type 0) : Type 0 where
   pub slots : List (Option (ℕ × V))
   pub spare : ℕ
@@ -46,7 +46,7 @@ module _ {V : Type 0} where
   abbrev pub buckets_of : PackedTable V → ℕ
   buckets_of t = length t.slots
 
-  -- how many lists it has: one for each 64 buckets, and one for 32
+  -- how many lists the map has: one for each 64 buckets, and one for 32
   abbrev pub lists_of : PackedTable V → ℕ
   lists_of t = lists_for (buckets_of t)
 
@@ -54,23 +54,25 @@ module _ {V : Type 0} where
   abbrev pub memory_of : PackedTable V → ℕ
   memory_of t = t.places + 64 * t.blanks
 
-  -- as a reservation leaves a map: no more places than items, four free ones for each 32 buckets, and what removals left, which is one
-  -- for each list at most; no more blank lists than new keys that there is room for, nor than lists
+  -- a map as a reservation leaves it. Its places are at most its items, four free ones for each 32 buckets, and the
+  -- ones that removals left, at most one for each list. There are at most as many blank lists as new keys that have
+  -- room, and as lists
   pub record IsFitted (t : PackedTable V) : Type 0 where
     pub places : t.places ≤ len_of t + buckets_of t / 8 + t.loose
     pub loose : t.loose ≤ lists_of t
     pub blanks : t.blanks ≤ min t.spare (lists_of t)
 
-  -- as a doubling leaves it: nothing of removals, and no blank list for a single new key; old and new lists were there at once, and no
-  -- place was counted twice, by a count that ends at 2^64 - 1
+  -- a map as a doubling leaves it: removals have left no free place, and there is no blank list for a single new key.
+  -- The old and the new lists were there at once. No place was counted twice, in a count that ends at 2^64 - 1
   pub record IsWidened (old new : PackedTable V) : Type 0 where
     pub loose : new.loose ≡ 0
     pub blanks : new.spare ≤ 1 → new.blanks ≡ 0
     pub least : min (max (memory_of old) (memory_of new)) (2 ^ 64 - 1) ≤ new.peak
     pub most : new.peak ≤ memory_of old + memory_of new
 
-  -- what holds of every map: the packed law, at most three quarters of the buckets taken and spoken for, and a power of two of
-  -- buckets, at least 32, or none; at most 65 places for each list, and no more blank lists than lists
+  -- facts that hold of every map. The packed law holds, and at most three quarters of the buckets are taken or spoken
+  -- for. There are no buckets or a power of two of them, at least 32. Each list has at most 65 places, and there are at
+  -- most as many blank lists as lists
   pub record IsSound (t : PackedTable V) : Type 0 where
     pub packed : IsPacked t.slots
     pub room : 4 * (len_of t + t.spare) ≤ 3 * buckets_of t

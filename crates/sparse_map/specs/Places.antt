@@ -11,7 +11,7 @@ module _ {V : Type 0} where
   abbrev pub list_size : Group V → ℕ × ℕ
   list_size g = (vec_len g.items, vec_capacity g.items)
 
-  -- those of all groups
+  -- the items and places of the lists of all groups
   unfoldable pub sizes_of : List (Group V) → List (ℕ × ℕ)
   sizes_of = map list_size
 
@@ -23,26 +23,26 @@ places_of = sum_by (λ s. s.1)
 unfoldable pub extra : ℕ × ℕ → ℕ
 extra s = s.1 - (s.0 + 4)
 
--- how many places a full list of so many items gets where it may have `more` places more: 48 at most, or four more than items where
--- these are more, and at most 64
+-- how many places a full list with `len` items gets if it may have `more` places more. It gets at most 48, or four more
+-- than items if that is more, and at most 64
 abbrev pub grown_to : ℕ → ℕ → ℕ
 grown_to len more = min (len + more) (min 64 (max 48 (len + 4)))
 
--- 1 for a list that has no place for n items more, nor for all that a group can hold; 0 for any other
+-- 1 for a list that has no place for n more items, nor for all that a group can hold; 0 for any other list
 unfoldable pub lacks : ℕ → ℕ × ℕ → ℕ
 lacks n s = if nat_lt s.1 (min 64 (s.0 + n)) then 1 else 0
 
--- the sum over all groups but those that may have been touched
+-- the sum over all groups but the ones that may have been touched
 unfoldable pub sum_untouched : (ℕ × ℕ → ℕ) → Touched → List (ℕ × ℕ) → ℕ
 sum_untouched f Nowhere s = sum_by f s
 sum_untouched f (In bucket) s = sum_by f s - f (slice_index_or s (bucket / 64) (64, 64))
 sum_untouched f Anywhere s = 0
 
--- their free places beyond four a list
+-- the free places beyond four, summed over the lists of these groups
 abbrev pub loose_of : Touched → List (ℕ × ℕ) → ℕ
 loose_of = sum_untouched extra
 
--- how many of their lists have no place for n items more, nor for all that a group can hold
+-- how many lists of these groups have no place for n more items, nor for all that a group can hold
 abbrev pub lacking : ℕ → Touched → List (ℕ × ℕ) → ℕ
 lacking n = sum_untouched (lacks n)
 
@@ -50,15 +50,15 @@ lacking n = sum_untouched (lacks n)
 unfoldable pub past_most : ℕ × ℕ → ℕ
 past_most s = s.1 - 65
 
--- those of all lists
+-- the places past 65 of all lists
 abbrev pub past_of : List (ℕ × ℕ) → ℕ
 past_of = sum_untouched past_most Nowhere
 
--- how many free places beyond four so many lists may have, all together, before they are trimmed: what full ones may grow by, and one
--- more for each list
+-- how many free places beyond four this many lists may have, all together, before they are trimmed. These are the
+-- places by which full lists may grow, and one more for each list
 abbrev pub most_loose : ℕ → ℕ
 most_loose lists = 8 * (lists / 2) + lists
 
--- such a number is bounded by `beyond`, where that is less than 2^64 - 1, which bounds nothing
+-- n is bounded by `beyond`, if that is less than 2^64 - 1, which bounds nothing
 unfoldable pub IsBoundedBy : ℕ → ℕ → Type 0
 IsBoundedBy beyond n = min n (2 ^ 64 - 1) ≤ beyond

@@ -1,4 +1,4 @@
--- What a look-up round the table ends at.
+-- The bucket at which a look-up round the table ends.
 use Rattle.std.specs.Prelude.{◌≡◌, ◌≢◌, ℕ, ◌<◌, List, length, Option, Some, None, IsSome, slice_set}
 use Rattle.std.specs.Ordering.{nat_cmp}
 use Rattle.std.specs.FinMap.{find}
@@ -8,7 +8,7 @@ use Rattle.sparse_map.specs.Home.{home, steps}
 use Rattle.sparse_map.specs.Slots.{slot_at, key_at, items_of}
 use Rattle.sparse_map.specs.Packed.{IsPacked}
 
--- bucket b is where a key that stands nowhere would go: it is free, and each bucket on the way from the key's home is occupied
+-- an absent key would go into bucket b: it is free, and each bucket on the way from the key's home is occupied
 pub record IsFreeFor {V : Type 0} (slots : List (Option (ℕ × V))) (key b : ℕ) : Type 0 where
   pub inside : b < length slots
   pub free : slot_at slots b ≡ None
@@ -29,18 +29,19 @@ pub record IsPut {V : Type 0} (old new : List (Option (ℕ × V))) (key : ℕ) (
   pub place : IsFreeFor old key bucket
   pub slots : new ≡ slice_set old bucket (Some (key, value))
 
--- a key has another value in the bucket where it stood, and no other bucket changed
+-- a key has another value in its own bucket, and no other bucket changed
 pub record IsReplaced {V : Type 0} (old new : List (Option (ℕ × V))) (key : ℕ) (value : V) : Type 0 where
   pub bucket : ℕ
   pub has : key_at old bucket ≡ Some key
   pub slots : new ≡ slice_set old bucket (Some (key, value))
 
--- the bucket that has the key, or the free one where it would go
+-- the bucket that has the key, or the free bucket into which it would go
 abbrev pub IsPlaceOf : {V : Type 0} → List (Option (ℕ × V)) → ℕ → Place → Type 0
 IsPlaceOf slots key (Found b) = key_at slots b ≡ Some key
 IsPlaceOf slots key (Free b) = IsFreeFor slots key b
 
--- after the walk of a removal: the item that goes away stands at the hole, and once the hole is freed the packed law holds
+-- after the walk of a removal, the item that is removed stands at the hole; once the hole is freed, the packed law
+-- holds
 pub record IsShifted {V : Type 0} (old new : List (Option (ℕ × V))) (bucket hole : ℕ) : Type 0 where
   pub inside : hole < length new
   pub item : slot_at new hole ≡ slot_at old bucket

@@ -7,7 +7,7 @@ use Rattle.sparse_map.specs.Slots.{rank, slot_at}
 use Rattle.sparse_map.specs.Groups.{all_slots}
 
 module _ {V : Type 0} where
-  -- the item of bucket b has, or would get, this place: as many buckets of its group below b are occupied
+  -- the item of bucket b has, or would get, this place: the number of occupied buckets of its group below b
   abbrev pub IsRankOf : List (Group V) → ℕ → ℕ → Type 0
   IsRankOf groups b place = (e : Group V) → place ≡ rank (slice_index_or groups (b / 64) e).occupied (b % 64)
 
@@ -17,7 +17,7 @@ module _ {V : Type 0} where
     pub occupied : IsSome (slot_at (all_slots groups) b)
     pub rank : IsRankOf groups b place
 
-  -- so has, or would get, that of the bucket which a look-up ended at
+  -- the bucket at which a look-up ended has this place, or its item would get it
   abbrev pub IsRankAt : List (Group V) → Place → ℕ → Type 0
   IsRankAt groups (Found b) place = IsRankOf groups b place
   IsRankAt groups (Free b) place = IsRankOf groups b place

@@ -9,8 +9,8 @@ module _ {V : Type 0} where
   leads_over n hole b None = false
   leads_over n hole b (Some e) = nat_le (steps n (home n e.0) hole) (steps n (home n e.0) b)
 
-  -- among n buckets with a hole, those after `at` are looked at in turn, `more` at most, until one isn't occupied: an item whose way
-  -- from home leads over the hole moves there, and its bucket becomes the hole
+  -- the buckets after `at` are looked at in turn, among n buckets with a hole: at most `more`, until one isn't
+  -- occupied. An item whose way from home leads over the hole moves there, and its bucket becomes the hole
   unfoldable pub shifted_back : ℕ → ℕ → ℕ → ℕ → List (Option (ℕ × V)) → List (Option (ℕ × V))
   shifted_back n zero hole at slots = slots
   shifted_back n (suc more) hole at slots =

@@ -9,7 +9,7 @@ unfoldable pub rank : ℕ → ℕ → ℕ
 rank occupied k = count_ones (occupied % 2 ^ k)
 
 module _ {X : Type 0} where
-  -- what bucket k of a group has: its item stands at the place that is the number of occupied buckets below it
+  -- the item of bucket k of a group: its place in the list is the number of occupied buckets below it
   abbrev pub unpacked : ℕ → List X → ℕ → Option X
   unpacked occupied items k = if bit_at occupied k == 1 then slice_get items (rank occupied k) else None
 
@@ -21,11 +21,11 @@ module _ {X : Type 0} where
   unfoldable pub items_of : List (Option X) → List X
   items_of = flat_map option_to_list
 
-  -- what bucket b has
+  -- the item of bucket b, if it has one
   abbrev pub slot_at : List (Option X) → ℕ → Option X
   slot_at slots b = slice_index_or slots b None
 
-  -- the 32 buckets of group i, as they are numbered where two share a list
+  -- the 32 buckets of group i, in the numbering in which two groups share a list
   abbrev pub group : List (Option X) → ℕ → List (Option X)
   group slots i = take 32 (drop (32 * i) slots)
 
@@ -33,6 +33,6 @@ module _ {X : Type 0} where
 abbrev pub key_at : {V : Type 0} → List (Option (ℕ × V)) → ℕ → Option ℕ
 key_at slots b = option_map (λ e. e.0) (slot_at slots b)
 
--- the buckets with the items of two exchanged
+-- the buckets after the items of two of them are exchanged
 abbrev pub exchanged : {X : Type 0} → List (Option X) → ℕ → ℕ → List (Option X)
 exchanged slots a b = slice_set (slice_set slots a (slot_at slots b)) b (slot_at slots a)

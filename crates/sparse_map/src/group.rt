@@ -1,19 +1,19 @@
-//! A group of 64 buckets: a number whose bit k says that bucket k is occupied, and the items of the occupied ones.
+//! A group of 64 buckets: a number whose bit k says that bucket k is occupied, and the items of the occupied buckets.
 ghost use Rattle.std.specs.Prelude.{insert, ◌≡◌, ◌+◌, ◌++◌, ◌^◌, ◌<◌, ◌≤◌, ◌↔◌, length, vec_len, Some, None, IfOk, IfSome, IsTrue, count_ones, option_map, slice_set, ℕ};
 ghost use Rattle.std.specs.Vec.{vec_capacity};
 
 use std::alloc::{AllocError, Global};
 use std::mem::{self, size_of};
 
-/// A few free places: a list that is trimmed keeps no more, and a full one grows by so many at least, up to 64 places,
-/// so that not each insertion lengthens it.
+/// A few free places. A list that is trimmed keeps no more than this. A full list grows by at least this many, up to 64
+/// places, so that not every insertion lengthens it.
 pub const SLACK: usize = 4;
 
-/// By how many places a full list grows at most, where the lists together may have more free ones.
+/// By how many places a full list grows at most, if all lists together may have more free ones.
 pub const MORE_SLACK: usize = 8;
 
-/// Three quarters of the 64 buckets of a list: the lists have no more items on average. Beyond so many places a full
-/// list grows by a few alone.
+/// Three quarters of the 64 buckets of a list: on average the lists have no more items than this. A full list with more
+/// places than this grows only by a few.
 const ITEMS_AT_DOUBLING: usize = 48;
 
 /// An empty list with room for the items of a whole group, kept ready for a group whose own list is full.
@@ -34,10 +34,10 @@ impl<V: Drop> Blank<V> {
     }
 }
 
-/// The buckets of one group. The item of bucket k stands at the place that is the number of occupied buckets below k.
+/// The buckets of one group. The place of bucket k's item in the list is the number of occupied buckets below k.
 #[derive(Drop)]
 pub struct Group<V> {
-    /// Bit k is set where bucket k is occupied.
+    /// Bit k is set if bucket k is occupied.
     pub occupied: u64,
     /// The items of the occupied buckets, in bucket order.
     pub items: Vec<(u64, V)>,
@@ -45,7 +45,7 @@ pub struct Group<V> {
     ghost counted: { length items.items ≡ count_ones occupied },
 }
 
-// What a group takes beside its items: 8 bytes for its bits, and 24 for the list's header.
+// The bytes that a group takes beside its items: 8 for its bits, and 24 for the list's header.
 const _: [(); 32] = [(); size_of::<Group<u64>>()];
 
 /// Moves items to the end of a list that has room for them.
@@ -72,8 +72,8 @@ fn insert_item<V: Drop>(items: &mut Vec<(u64, V)>, place: usize, item: (u64, V))
     }
 }
 
-/// The same, from the end of the list on: the item changes places with each that comes after it. Where there are few,
-/// this takes less time.
+/// Does the same as `insert_item` from the end of the list: the item changes places with each that comes after it. This
+/// takes less time if there are few of those.
 fn insert_from_end<V: Drop>(items: &mut Vec<(u64, V)>, place: usize, item: (u64, V))
     requires within { place ≤ vec_len items.old }
     requires room { vec_len items.old < vec_capacity items.old }
@@ -107,7 +107,7 @@ impl<V: Drop> Group<V> {
         }
     }
 
-    /// A group with no item, whose list has so many places.
+    /// A group with no item, whose list has `places` places.
     pub fn with_places(alloc: Global, places: usize) -> Result<Self, AllocError>
         ensures slots { IfOk result (λ g. (k : ℕ) → slot_at (slots_in g) k ≡ None) }
         ensures len { IfOk result (λ g. vec_len g.items ≡ 0) }
@@ -125,8 +125,8 @@ impl<V: Drop> Group<V> {
         (self.occupied >> k) & 1 == 1
     }
 
-    /// How many buckets below bucket `k` are occupied: the place that its item has, or would get, in the list. A look-up
-    /// counts it once for each group that it comes to, and hands it on.
+    /// How many buckets below bucket `k` are occupied: the place that its item has, or would get, in the list. A
+    /// look-up counts it once for each group that it comes to, and hands it on.
     #[tactic(auto, using(crate::proofs::RankLemmas::rank_by_mask))]
     pub fn rank_at(&self, k: u32) -> u32
         requires { k < 64 }
@@ -150,7 +150,7 @@ impl<V: Drop> Group<V> {
         Some(from + free.trailing_zeros())
     }
 
-    /// Where the run of occupied buckets from bucket `from` on ends.
+    /// The end of the run of occupied buckets from bucket `from` on.
     pub fn run_end(&self, from: u32) -> u32
         requires { from < 64 }
         ensures from { from ≤ result }
@@ -164,8 +164,8 @@ impl<V: Drop> Group<V> {
         64
     }
 
-    /// The bucket that has a key, in a run of occupied buckets that starts at `from`, which doesn't have it, and has this
-    /// end. As no bucket of a run is free, its items stand one after another.
+    /// The bucket that has a key, in a run of occupied buckets from `from` up to `end`; bucket `from` doesn't have the
+    /// key. As no bucket of a run is free, its items stand one after another in the list.
     pub fn find_in_run(&self, from: u32, end: u32, place: u32, key: u64) -> Option<u32>
         requires from { from < 64 }
         requires end { end ≤ 64 }
@@ -214,8 +214,8 @@ impl<V: Drop> Group<V> {
         Some(self.items[place as usize].0)
     }
 
-    /// Whether bucket `k` has a key. The item at its rank is compared before the bucket's bit is asked: for a new key this
-    /// nearly always says no, while a bit can't be guessed.
+    /// Whether bucket `k` has a key. The item at its rank is compared before the bucket's bit is read: for a new key
+    /// the comparison nearly always fails, while the bit can't be guessed.
     pub fn has_key(&self, k: u32, place: u32, key: u64) -> bool
         requires within { k < 64 }
         requires place { place ≡ rank self.now.occupied k }
@@ -261,7 +261,7 @@ impl<V: Drop> Group<V> {
         self.items.len() == self.items.capacity()
     }
 
-    /// Occupies a free bucket, within the room that the list has.
+    /// Occupies a free bucket, in a list that has a free place.
     pub fn insert(&mut self, k: u32, place: u32, item: (u64, V))
         requires within { k < 64 }
         requires place { place ≡ rank self.old.occupied k }
@@ -275,7 +275,7 @@ impl<V: Drop> Group<V> {
         self.occupied |= 1 << k;
     }
 
-    /// The same, from the end of the list on, in less time where few occupied buckets come after this one.
+    /// Does the same as `insert` from the end of the list, in less time if few occupied buckets come after this one.
     pub fn insert_late(&mut self, k: u32, place: u32, item: (u64, V))
         requires within { k < 64 }
         requires place { place ≡ rank self.old.occupied k }
@@ -355,8 +355,8 @@ impl<V: Drop> Group<V> {
         self.items = list;
     }
 
-    /// Gives back what the list holds beyond its items and a little room. Refused, for want of memory, it holds no more than
-    /// before.
+    /// Gives back the memory that the list has beyond its items and a few places. On `Err`, when memory fails, it has
+    /// at most as much as it had.
     pub fn trim(&mut self) -> Result<(), AllocError>
         ensures occupied { self.new.occupied ≡ self.old.occupied }
         ensures items { self.new.items.items ≡ self.old.items.items }
@@ -372,9 +372,9 @@ impl<V: Drop> Group<V> {
         Ok(())
     }
 
-    /// Moves the items of a list that is full into one with so many places more, but with no more than 48 places, or a
-    /// few more than items where these are more, and with no more than a whole group needs. Refused, for want of memory
-    /// for it, the list is as before.
+    /// Moves the items of a full list into one with `more` more places. But the new list has at most 48 places, or a
+    /// few more than items if that is more, and at most as many as a whole group needs. On `Err`, when memory fails,
+    /// the list is unchanged.
     pub fn grow(&mut self, alloc: Global, more: usize) -> Result<(), AllocError>
         requires { 4 ≤ more }
         ensures occupied { self.new.occupied ≡ self.old.occupied }
@@ -401,7 +401,8 @@ impl<V: Drop> Group<V> {
             // The new list has room for all the items.
             Err(_) => unreachable!(),
         }
-        // What `append` has room for it doesn't lengthen, but it doesn't promise that: a longer list passes for none.
+        // `append` doesn't lengthen a list that has room, but it doesn't promise that. So a longer list counts as out
+        // of memory.
         if list.capacity() > places {
             move_items(list, &mut full);
             self.items = full;
@@ -411,9 +412,9 @@ impl<V: Drop> Group<V> {
         Ok(())
     }
 
-    /// Makes the list fit: it has a free place then, or places for a whole group. One with free places keeps a few of them
-    /// at most, and one that is full grows as `grow` says. Answers how many are free beyond a few. Refused, for want of
-    /// memory, the list has no more places than before.
+    /// Makes the list fit: it then has a free place, or places for a whole group. A list with free places keeps at most
+    /// a few of them, and a full list grows as `grow` says. The answer is the number of free places beyond a few. On
+    /// `Err`, when memory fails, the list has at most as many places as before.
     pub fn fit(&mut self, alloc: Global, more: usize) -> Result<usize, AllocError>
         requires { 4 ≤ more }
         ensures occupied { self.new.occupied ≡ self.old.occupied }

@@ -1,4 +1,4 @@
-//! Where a key is looked for first, and how buckets follow one another round the table.
+//! The bucket in which a key is looked for first, and the order of buckets round the table.
 
 ghost use Rattle.std.specs.Prelude.{◌≡◌, ◌+◌, ◌*◌, ◌^◌, ◌<◌, ◌≤◌, if◌then◌else◌, ◌==◌, ◌⊎◌, ◌↔◌, IsTrue};
 ghost use Rattle.sparse_map.specs.Home.{home, steps, IsTableSize, IsDoubledFor};
@@ -27,7 +27,7 @@ pub fn bucket_count(bits: u32) -> u64
     1 << bits
 }
 
-/// How many steps lead from bucket `from` on to bucket `to`, going round past the last of `buckets`.
+/// How many steps lead from bucket `from` to bucket `to`, going round past the last of `buckets`.
 #[tactic(auto, using(crate::proofs::HomeLemmas::steps_ahead, crate::proofs::HomeLemmas::steps_round))]
 pub fn steps_between(buckets: u64, from: u64, to: u64) -> u64
     requires few { buckets ≤ 2 ^ 31 }
@@ -65,8 +65,8 @@ pub fn next_bucket(buckets: u64, bucket: u64) -> u64
     if bucket + 1 == buckets { 0 } else { bucket + 1 }
 }
 
-/// The number of bits of the bucket number that leaves a quarter of the buckets free beside `need` items: no fewer
-/// than there are, and at least 5.
+/// The number of bits of the bucket number with which `need` items leave a quarter of the buckets free. It is at least
+/// `bits`, and at least 5.
 #[tactic(auto, using(crate::proofs::HomeLemmas::grew_none, crate::proofs::HomeLemmas::grew_from_none, crate::proofs::HomeLemmas::grew_more, crate::proofs::HomeLemmas::grew_enough, crate::proofs::HomeLemmas::below_thirty_one))]
 pub fn bits_for(bits: u32, need: u64) -> u32
     requires room { need ≤ 2 ^ 30 }

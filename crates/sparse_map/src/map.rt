@@ -30,10 +30,10 @@ pub struct SparseMap<V> {
     len: u64,
     spare: u64,
     stock: Vec<Blank<V>>,
-    // The groups whose lists may have become full, or given way to a blank one, since they were last made to fit.
+    // The groups whose lists may have become full, or given way to a blank list, since they were last made to fit.
     touched: Touched,
-    // At least the free places beyond four that the lists of other groups have, all together. The largest number bounds
-    // nothing.
+    // At least the number of free places beyond four that the lists of other groups have, all together. The largest
+    // number bounds nothing.
     beyond: u64,
     peak: u64,
 }
@@ -130,9 +130,9 @@ impl<V: Drop> SparseMap<V> {
         places_with(self.groups.as_slice(), self.stock.as_slice())
     }
 
-    /// The places that old and new lists had as the buckets last became more, blank ones included: no fewer than the
-    /// map had before or after, and no more than both together. The count ends at 2^64 - 1, and is 0 before there are
-    /// buckets.
+    /// The places that old and new lists had together when the number of buckets last rose, blank lists included. It is
+    /// at least as many as the map had before or after, and at most both together. The count ends at 2^64 - 1, and is 0
+    /// before there are buckets.
     pub fn peak_places(&self) -> u64
         ensures { result ≡ self.now.peak }
     {
@@ -140,8 +140,8 @@ impl<V: Drop> SparseMap<V> {
     }
 
     /// Group `i` as it is packed: a number whose bit k says whether bucket k of the group is occupied, and the items of
-    /// the occupied buckets, in bucket order. The item of bucket k stands at the place that is the number of set bits
-    /// below bit k.
+    /// the occupied buckets, in bucket order. The place of bucket k's item among them is the number of set bits below
+    /// bit k.
     pub fn group_at(&self, i: u64) -> (u32, &[(u64, V)])
         requires { 32 * i < buckets_of self.now }
         ensures counted { length result.1.now ≡ count_ones result.0 }
@@ -161,8 +161,8 @@ impl<V: Drop> SparseMap<V> {
         Some(value_at(groups, seat.bucket, seat.rank))
     }
 
-    /// Sets the value of a key, and gives the old one. It takes no memory and can't be refused: a new key takes room
-    /// that `reserve` made.
+    /// Sets the value of a key, and gives the old one. It allocates nothing and can't fail: a new key takes room that
+    /// `reserve` made.
     pub fn insert_ready(&mut self, key: u64, value: V) -> Option<V>
         requires { (map.contains_key (map_of self.old) key ≡ true) ⊎ (1 ≤ self.old.spare) }
         ensures old { result ≡ map.get (map_of self.old) key }
@@ -200,8 +200,8 @@ impl<V: Drop> SparseMap<V> {
         }
     }
 
-    /// Takes a key out of the map, and gives its value. The buckets and the room stay, and so does what `places`
-    /// counts.
+    /// Takes a key out of the map, and gives its value. The buckets and the room stay, and so does the number that
+    /// `places` gives.
     pub fn remove(&mut self, key: u64) -> Option<V>
         ensures value { result ≡ map.get (map_of self.old) key }
         ensures map { map_of self.new ≡ map.remove (map_of self.old) key }
@@ -226,9 +226,9 @@ impl<V: Drop> SparseMap<V> {
         Some(value)
     }
 
-    /// Makes room for `n` new keys. From no bucket the map goes to 32; then the buckets double just as often as more than
-    /// three quarters of them would be taken. Where they don't double, each item stays in its bucket. Refused, for want of
-    /// memory, map, buckets and room are as before.
+    /// Makes room for `n` new keys. A map with no bucket gets 32. Then the buckets double as often as more than three
+    /// quarters of them would be taken, and no oftener. If they don't double, each item stays in its bucket. On `Err`,
+    /// when memory fails, map, buckets and room are unchanged.
     pub fn reserve(&mut self, n: u32) -> Result<(), AllocError>
         requires { len_of self.old + n ≤ 2 ^ 30 }
         ensures map { map_of self.new ≡ map_of self.old }
@@ -253,9 +253,9 @@ impl<V: Drop> SparseMap<V> {
         }
     }
 
-    /// Makes room for `n` new keys within the buckets that there are: the lists of the groups that may have been
-    /// touched are made to fit, all are trimmed after as many removals as there are lists, and blank ones are made for
-    /// more than one key, or where any list may be full. What can be refused and adds memory to a list comes last.
+    /// Makes room for `n` new keys within the present buckets. The lists of the groups that may have been touched are
+    /// made to fit. After as many removals as there are lists, all lists are trimmed. Blank lists are made for more
+    /// than one key, or if any list may be full. The steps that can fail and that add memory to a list come last.
     fn stock_up(&mut self, n: u64) -> Result<(), AllocError>
         requires { 4 * (len_of self.old + n) ≤ 3 * buckets_of self.old }
         ensures slots { self.new.slots ≡ self.old.slots }
@@ -270,8 +270,8 @@ impl<V: Drop> SparseMap<V> {
         ensures blanks { self.new.blanks ≤ lists_of self.new }
     {
         let spare = self.spare.max(n);
-        // Where no list was touched, each with a free bucket has a place for one key; and where not too many places are free,
-        // all lists stay as they are.
+        // If no list was touched, each list with a free bucket has a place for one key. If also not too many places are
+        // free, all lists stay unchanged.
         let lists = self.groups.len();
         if spare <= 1 && self.stock.is_empty() && self.beyond <= most_beyond(lists) {
             if let Touched::Nowhere = self.touched {
@@ -292,8 +292,8 @@ impl<V: Drop> SparseMap<V> {
         Ok(())
     }
 
-    /// Places every item anew in `2^bits` buckets, in the order of the old ones. What goes where is counted first, so that
-    /// lists are taken that fit, or old ones handed on, and all memory is taken before the first item moves.
+    /// Places every item anew in `2^bits` buckets, in the order of the old ones. It first counts which group each item
+    /// goes to. So it makes lists that fit, or hands old ones on, and takes all memory before the first item moves.
     fn widen(&mut self, bits: u32, n: u64) -> Result<(), AllocError>
         requires size { IsTableSize bits }
         requires wider { buckets_of self.old ≤ 2 ^ bits }
@@ -331,7 +331,8 @@ impl<V: Drop> SparseMap<V> {
     }
 }
 
-/// How many places the lists of these groups have, and blank ones of 64. The count ends at 2^64 - 1.
+/// How many places the lists of these groups and these blank lists have, 64 for each blank list. The count ends at
+/// 2^64 - 1.
 fn places_with<V: Drop>(groups: &[Group<V>], stock: &[Blank<V>]) -> u64
     ensures { result ≡ min (places_of (sizes_of groups.now) + 64 * length stock.now) (2 ^ 64 - 1) }
 {

@@ -21,11 +21,11 @@ use std::alloc::{AllocError, Global};
 /// What a doubling needs, taken before the first item moves.
 #[derive(Drop)]
 pub struct Widening<V> {
-    /// The new groups, with no item. One that takes over an old list has no places before.
+    /// The new groups, with no item. A group that takes over an old list has no places before that.
     pub groups: Vec<Group<V>>,
-    /// For each old group the new one that takes over its list, if one does.
+    /// For each old group the new group that takes over its list, if there is one.
     pub heirs: Vec<Option<u32>>,
-    /// An empty list with room for the items of any old group, which holds them once their own is handed on.
+    /// An empty list with room for the items of any old group. It holds them once their own list is handed on.
     pub held: Vec<(u64, V)>,
     ghost groups_fit: { vec_capacity groups ≡ vec_len groups },
     ghost heirs_fit: { vec_capacity heirs ≡ vec_len heirs },
@@ -45,7 +45,8 @@ fn is_heir(heirs: &[Option<u32>], group: usize) -> bool
     }
 }
 
-/// How many places the list of a new group gets: one more than items are counted, but none where an old list is handed on.
+/// How many places the list of a new group gets: one more than the items that are counted, but none if an old list is
+/// handed on.
 fn places_for(heirs: &[Option<u32>], group: usize, count: u32) -> usize
     ensures fit { IsFit result count ⊎ (slice_index_or heirs.now (group / 2) None ≡ Some group) }
     ensures few { result ≤ count + 1 }
@@ -57,7 +58,7 @@ fn places_for(heirs: &[Option<u32>], group: usize, count: u32) -> usize
     count as usize + 1
 }
 
-/// Groups with no item, with lists that fit so many in each, or none yet.
+/// Groups with no item, whose lists fit the counted items. A group that takes over a list has no places yet.
 fn groups_for<V: Drop>(
     alloc: Global,
     counts: &[u32],
@@ -79,8 +80,8 @@ fn groups_for<V: Drop>(
     Ok(groups)
 }
 
-/// New groups for `2^bits` buckets, with lists that fit what these groups will put there, but for those that take over a
-/// list of theirs.
+/// New groups for `2^bits` buckets, with lists that fit the items that these groups will put there. A new group that
+/// takes over one of their lists gets none.
 pub fn groups_ahead<V: Drop>(
     alloc: Global,
     groups: &[Group<V>],
@@ -120,7 +121,7 @@ fn put_ready<V: Drop>(groups: &mut [Group<V>], bucket: u64, rank: u32, item: (u6
     groups[(bucket / 64) as usize].insert_late((bucket % 64) as u32, rank, item);
 }
 
-/// Puts an item with a new key into the first free bucket from its home on. As no key comes twice, none is compared.
+/// Puts an item with a new key into the first free bucket from its home on. No key comes twice, so none is compared.
 fn place<V: Drop>(groups: &mut [Group<V>], bits: u32, item: (u64, V))
     requires size { IsTableSize bits }
     requires ready { CanTake (2 ^ bits) groups.old (item ∷ []) }
@@ -145,7 +146,8 @@ fn place_list<V: Drop>(groups: &mut [Group<V>], bits: u32, items: Vec<(u64, V)>)
     }
 }
 
-/// Puts in the items of a list, one after another. Their order is turned round first, as they leave the list at its end.
+/// Puts in the items of a list, one after another. Their order is reversed first, because they leave the list at its
+/// end.
 fn place_items<V: Drop>(groups: &mut [Group<V>], bits: u32, items: &mut Vec<(u64, V)>)
     requires size { IsTableSize bits }
     requires ready { CanTake (2 ^ bits) groups.old items.old.items }
@@ -161,7 +163,7 @@ fn place_items<V: Drop>(groups: &mut [Group<V>], bits: u32, items: &mut Vec<(u64
     }
 }
 
-/// Moves the items of a list to the end of one that has room for them, and gives the list back without them.
+/// Moves the items of a list to the end of another that has room for them, and gives the list back without them.
 fn emptied<V: Drop>(mut list: Vec<(u64, V)>, held: &mut Vec<(u64, V)>) -> Vec<(u64, V)>
     requires room { vec_len held.old + vec_len list ≤ vec_capacity held.old }
     ensures items { held.new.items ≡ held.old.items ++ list.items }

@@ -1,5 +1,5 @@
-//! How many items each group of a wider table gets, counted before any item moves, so that lists are made that fit, and
-//! which groups take over an old list.
+//! How many items each group of a wider table gets, and which groups take over an old list. All is counted before any
+//! item moves, so that the new lists fit.
 ghost use Rattle.std.specs.Prelude.{◌≡◌, ℕ, ◌+◌, ◌-◌, ◌*◌, ◌/◌, ◌^◌, ◌<◌, ◌≤◌, ◌⊎◌, ◌↔◌, true, false, Some, None, length, vec_len, replicate, IfOk, IfSome, IsTrue, slice_index_or};
 ghost use Rattle.std.specs.Vec.{vec_capacity};
 ghost use Rattle.sparse_map.specs.Home.{home, IsTableSize};
@@ -12,7 +12,7 @@ use crate::group::{Group, SLACK};
 use crate::home::{bucket_count, home_of, next_bucket};
 use std::alloc::{AllocError, Global};
 
-/// The first bucket that isn't marked, from the home of a key on, going round.
+/// The first bucket from the home of a key on, going round, that isn't marked.
 fn first_unmarked(marks: &[bool], bits: u32, key: u64) -> u64
     requires size { IsTableSize bits }
     requires buckets { length marks.now ≡ 2 ^ bits }
@@ -56,8 +56,9 @@ fn mark_items<V: Drop>(marks: &mut [bool], counts: &mut [u32], bits: u32, items:
     }
 }
 
-/// Notes of two new groups, with twice the number of an old one and one more, whether nothing goes to them from the groups
-/// before that one. Where the groups double, the keys whose home was in that one have theirs in these two.
+/// Notes of the two new groups of an old one whether nothing goes to them from the groups before that one. They have
+/// twice the old number, and one more. If the groups double, a key whose home was in the old group has its home in
+/// these two.
 fn note_clear(clear: &mut [bool], counts: &[u32], source: usize)
     requires level { length clear.old ≡ length counts.now }
     ensures all { (q : ℕ) → q / 2 ≡ source → source < length counts.now / 2 → slice_index_or counts.now q 0 ≡ 0
@@ -73,8 +74,8 @@ fn note_clear(clear: &mut [bool], counts: &[u32], source: usize)
     }
 }
 
-/// Marks the buckets that the keys of all these groups take, and notes which new groups are clear when the turn comes to
-/// their old group.
+/// Marks the buckets that the keys of all these groups take, and notes which new groups are clear when their old
+/// group's turn comes.
 fn mark_groups<V: Drop>(
     marks: &mut [bool],
     counts: &mut [u32],
@@ -98,22 +99,23 @@ fn mark_groups<V: Drop>(
     }
 }
 
-/// How many free places beyond a few a list of so many places has with so many items.
+/// How many free places beyond a few a list with `places` places has with `count` items.
 fn beyond_few(places: usize, count: u32) -> usize
     ensures { result ≡ beyond_four places count }
 {
     places.saturating_sub(count as usize + SLACK)
 }
 
-/// Whether a list of so many places fits so many items: it has a free place then, and beyond a few no more than `left`.
+/// Whether a list with `places` places fits `count` items: it then has a free place, and at most `left` free places
+/// beyond a few.
 fn fits(places: usize, count: u32, left: usize) -> bool
     ensures { IsTrue result ↔ (IsFit places count × (beyond_four places count ≤ left)) }
 {
     (count as usize) < places && beyond_few(places, count) <= left
 }
 
-/// The new group that takes over the list of an old group: of its two the one that gets more, if the list fits there, and
-/// nothing goes there before the list is handed on.
+/// The new group that takes over the list of an old group. It is the one of the two that gets more, if the list fits
+/// there, and nothing goes there before the list is handed on.
 fn heir_of(counts: &[u32], clear: &[bool], source: usize, places: usize, left: usize) -> Option<u32>
     requires level { length clear.now ≡ length counts.now }
     requires small { length counts.now < 2 ^ 32 }
@@ -137,7 +139,7 @@ fn heir_of(counts: &[u32], clear: &[bool], source: usize, places: usize, left: u
     None
 }
 
-/// How many free places beyond a few a list of so many places brings to its heir.
+/// How many free places beyond a few a list with `places` places brings to its heir.
 fn brought(counts: &[u32], heir: Option<u32>, places: usize) -> usize
     requires { IfSome heir (λ q. q < length counts.now) }
     ensures { result ≡ brought counts.now heir places }
@@ -148,8 +150,8 @@ fn brought(counts: &[u32], heir: Option<u32>, places: usize) -> usize
     }
 }
 
-/// The heirs of all old groups. What their lists bring beyond a few free places each stays, in all, within eight for
-/// each two new groups.
+/// The heirs of all old groups. Together their lists bring at most eight free places beyond a few for each two new
+/// groups.
 fn heirs_of<V: Drop>(
     alloc: Global,
     counts: &[u32],
@@ -179,7 +181,7 @@ fn heirs_of<V: Drop>(
     Ok(heirs)
 }
 
-/// So many marks, none of which is set, in a list that has memory for no more: one that is longer passes for none.
+/// `n` marks, none of which is set, in a list that has memory for no more. A longer list counts as out of memory.
 fn no_marks(alloc: Global, n: usize) -> Result<Vec<bool>, AllocError>
     ensures items { IfOk result (λ v. v.items ≡ replicate n false) }
     ensures len { IfOk result (λ v. vec_len v ≡ n) }
@@ -192,7 +194,7 @@ fn no_marks(alloc: Global, n: usize) -> Result<Vec<bool>, AllocError>
     Ok(marks)
 }
 
-/// So many counts of nothing, in a list that has memory for no more: one that is longer passes for none.
+/// `n` counts of 0, in a list that has memory for no more. A longer list counts as out of memory.
 fn no_counts(alloc: Global, n: usize) -> Result<Vec<u32>, AllocError>
     ensures items { IfOk result (λ v. v.items ≡ replicate n 0) }
     ensures len { IfOk result (λ v. vec_len v ≡ n) }
@@ -205,19 +207,19 @@ fn no_counts(alloc: Global, n: usize) -> Result<Vec<u32>, AllocError>
     Ok(counts)
 }
 
-/// What is known of a wider table before any item moves.
+/// The facts about a wider table before any item moves.
 #[derive(Drop)]
 pub struct Ahead {
     /// How many items each group gets.
     pub counts: Vec<u32>,
-    /// For each old group the new one that takes over its list, if one does.
+    /// For each old group the new group that takes over its list, if there is one.
     pub heirs: Vec<Option<u32>>,
     ghost counts_fit: { vec_capacity counts ≡ vec_len counts },
     ghost heirs_fit: { vec_capacity heirs ≡ vec_len heirs },
 }
 
-/// How many items each group of a table of `2^bits` buckets gets when the items of these groups go into it in order, and
-/// which of them take over a list.
+/// How many items each group of a table of `2^bits` buckets gets when the items of these groups go into it in order.
+/// Also which new groups take over a list.
 pub fn count_ahead<V: Drop>(
     alloc: Global,
     groups: &[Group<V>],

@@ -21,26 +21,26 @@ use crate::group::{Blank, Group, MORE_SLACK, SLACK};
 use crate::home::{bucket_count, home_of, leads_over, next_bucket};
 use std::alloc::{AllocError, Global};
 
-/// The bucket that has a key, or the one where it would go.
+/// The bucket that has a key, or the bucket into which it would go.
 #[derive(Clone, Copy)]
 pub enum Place {
     /// This bucket has the key.
     Found(u64),
-    /// No bucket has it, and this free one is the first on its way from home.
+    /// No bucket has the key, and this free bucket is the first on its way from home.
     Free(u64),
 }
 
-/// What a look-up ends at: a bucket, and its rank, which is the place that its item has or would get in the list of its
-/// group. Who goes on with the bucket counts nothing again.
+/// Where a look-up ends: a bucket, and its rank, which is the place that its item has or would get in the list of its
+/// group. A caller that goes on with the bucket counts nothing again.
 #[derive(Clone, Copy)]
 pub struct Spot {
-    /// Where it ends.
+    /// The bucket.
     pub at: Place,
     /// How many items of that group stand before the bucket.
     pub rank: u32,
 }
 
-/// A bucket, and its rank.
+/// A bucket and its rank.
 #[derive(Clone, Copy)]
 pub struct Seat {
     /// Its number in the whole table.
@@ -49,27 +49,27 @@ pub struct Seat {
     pub rank: u32,
 }
 
-/// Which groups may have been touched since their lists were last made to fit: a new key took the last free place of
-/// their list, or their list gave way to a blank one.
+/// Which groups may have been touched since their lists were last made to fit. A group is touched when a new key takes
+/// the last free place of its list, or its list gives way to a blank one.
 #[derive(Clone, Copy)]
 pub enum Touched {
     /// No group.
     Nowhere,
-    /// No other than the group of this bucket.
+    /// No group but the group of this bucket.
     In(u64),
     /// Any group.
     Anywhere,
 }
 
 impl Touched {
-    /// The same once a new key went into a bucket, and touched its group or not.
+    /// The same groups after a new key went into a bucket, with the bucket's group if it was touched.
     pub fn with(self, touched: bool, bucket: u64) -> Self
         ensures added { IsTrue touched → MayBeTouched result (bucket / 64) }
         ensures kept { (i : ℕ) → MayBeTouched self i → MayBeTouched result i }
         ensures first { IsTrue touched → self ≡ Nowhere → result ≡ In bucket }
         ensures same { touched ≡ false → result ≡ self }
     {
-        // Whether a list became full can't be guessed, so the common case is one choice of two values.
+        // It can't be guessed whether a list became full, so the common case is one choice of two values.
         if let Touched::Nowhere = self {
             return if touched {
                 Touched::In(bucket)
@@ -84,9 +84,9 @@ impl Touched {
         }
     }
 
-    /// What bounds the free places beyond a few of all lists that weren't touched, once a new key went into one that has
-    /// so many free places `left`: one less where no group was touched and that list had such a place. The largest
-    /// number bounds nothing, and stays.
+    /// The bound of the free places beyond a few of all lists that weren't touched, after a new key went into one that
+    /// has `left` free places. It is one less if no group was touched and that list had a free place beyond a few. The
+    /// largest number bounds nothing, and stays.
     pub fn counted(self, beyond: u64, left: usize) -> u64
         ensures bounds { (before after : ℕ) → min before (2 ^ 64 - 1) ≤ beyond → after ≤ before
             → (self ≡ Nowhere → 4 ≤ left → after + 1 ≤ before) → min after (2 ^ 64 - 1) ≤ result }
@@ -99,7 +99,7 @@ impl Touched {
     }
 }
 
-/// The rank of a bucket after an occupied one, of which this is the rank.
+/// The rank of the bucket after an occupied bucket of this rank.
 fn next_rank(rank: u32, bucket: u64) -> u32
     requires { rank ≤ 64 }
     ensures { result ≡ (if bucket % 64 == 0 then 0 else rank + 1) }
@@ -124,7 +124,7 @@ pub fn value_at<V: Drop>(groups: &[Group<V>], bucket: u64, rank: u32) -> &V
     groups[(bucket / 64) as usize].value((bucket % 64) as u32, rank)
 }
 
-/// Makes room for one item in a group that has a free bucket: a list that is full gives way to a blank one. Answers
+/// Makes room for one item in a group that has a free bucket: a full list gives way to a blank one. The answer says
 /// whether it did.
 fn make_room<V: Drop>(alloc: Global, group: &mut Group<V>, stock: &mut Vec<Blank<V>>) -> bool
     requires below { vec_len group.old.items < 64 }
@@ -149,7 +149,7 @@ fn make_room<V: Drop>(alloc: Global, group: &mut Group<V>, stock: &mut Vec<Blank
     true
 }
 
-/// How many places of a list count as free: none of one that gave way to a blank one.
+/// How many places of a list count as free. A list that replaced a full one counts as having none.
 fn left_in(grew: bool, free: usize) -> usize
     ensures blank { IsTrue grew → result ≡ 0 }
     ensures own { grew ≡ false → result ≡ free }
@@ -157,8 +157,8 @@ fn left_in(grew: bool, free: usize) -> usize
     if grew { 0 } else { free }
 }
 
-/// Sets the item of a free bucket, with a blank list for a group whose own is full. Answers how many places of the list are
-/// free then, but 0 where the group took a blank one: with 0 it was touched.
+/// Sets the item of a free bucket. A group whose own list is full gets a blank list. The answer is the number of places
+/// of the list that are then free, or 0 if the group took a blank one. After an answer of 0 the group was touched.
 pub fn put<V: Drop>(
     alloc: Global,
     groups: &mut [Group<V>],
@@ -258,14 +258,16 @@ fn exchange<V: Drop>(groups: &mut [Group<V>], a: u64, a_rank: u32, b: u64, b_ran
     }
 }
 
-/// The first free bucket from a bucket on, going round. No key is read: the groups' numbers say which are occupied.
+/// The first free bucket from a bucket on, going round. No key is read: the groups' numbers say which buckets are
+/// occupied.
 pub fn first_free<V: Drop>(groups: &[Group<V>], bits: u32, from: u64) -> Seat
     requires table { HasFreeBucket bits groups.now }
     requires within { from < 2 ^ bits }
     ensures first { IsFirstFree (slots_of (2 ^ bits) groups.now) from result.bucket }
     ensures rank { IsRankOf groups.now result.bucket result.rank }
 {
-    // While the buckets double most homes are free: a test of that bucket alone is guessed right, and nothing waits for it.
+    // While the buckets double most homes are free. A test of the home alone is guessed right, and nothing waits for
+    // it.
     let start = &groups[(from / 64) as usize];
     if !start.is_occupied((from % 64) as u32) {
         return Seat {
@@ -290,7 +292,7 @@ pub fn first_free<V: Drop>(groups: &[Group<V>], bits: u32, from: u64) -> Seat
         passed += width - bucket % 64;
         bucket = next_bucket(buckets, start + width - 1);
     }
-    // There are fewer items than buckets, so a free one comes within one round.
+    // There are fewer items than buckets, so one round meets a free bucket.
     unreachable!()
 }
 
@@ -310,7 +312,7 @@ pub fn probe<V: Drop>(groups: &[Group<V>], bits: u32, key: u64) -> Spot
         let start = bucket - bucket % 64;
         let first = (bucket % 64) as u32;
         let place = group.rank_at(first);
-        // Most keys that are there stand at home: this is asked before the end of the run is looked for.
+        // Most keys that are in the map stand at home, so this is tested before the end of the run is looked for.
         if group.has_key(first, place, key) {
             return Spot {
                 at: Place::Found(bucket),
@@ -337,7 +339,7 @@ pub fn probe<V: Drop>(groups: &[Group<V>], bits: u32, key: u64) -> Spot
     unreachable!()
 }
 
-/// Where a key is, if it is there.
+/// The bucket of a key, if the key is in the table.
 pub fn find<V: Drop>(groups: &[Group<V>], bits: u32, key: u64) -> Option<Seat>
     requires table { 0 < bits → HasFreeBucket bits groups.now }
     ensures found { MatchOption result ((b : ℕ) → key_at (slots_of (buckets_for bits) groups.now) b ≢ Some key)
@@ -357,9 +359,9 @@ pub fn find<V: Drop>(groups: &[Group<V>], bits: u32, key: u64) -> Option<Seat>
     }
 }
 
-/// Moves an item that is to go away to where its bucket can be freed, so that each other item stays reachable from its
-/// home: an item further on whose way from home leads over the hole takes its place. Gives the last such bucket, and its
-/// rank.
+/// Moves an item that is to be removed to a bucket that can be freed, so that each other item stays reachable from its
+/// home. An item further on whose way from home leads over the hole takes its place. Gives the last such bucket, and
+/// its rank.
 fn shift_back<V: Drop>(groups: &mut [Group<V>], bits: u32, bucket: u64, rank: u32) -> (u64, u32)
     requires table { HasFreeBucket bits groups.old }
     requires seat { IsSeated groups.old bucket rank }
@@ -413,8 +415,8 @@ pub fn remove_at<V: Drop>(groups: &mut [Group<V>], bits: u32, bucket: u64, rank:
     take(groups, hole, hole_rank)
 }
 
-/// Gives back the memory that the groups' lists hold beyond their items and a little room. Refused at the first list for
-/// which there is no memory.
+/// Gives back the memory that the groups' lists have beyond their items and a few places. It fails at the first list
+/// for which there is no memory.
 fn trim_all<V: Drop>(groups: &mut [Group<V>]) -> Result<(), AllocError>
     ensures slots { all_slots groups.new ≡ all_slots groups.old }
     ensures fewer { places_of (sizes_of groups.new) ≤ places_of (sizes_of groups.old) }
@@ -429,8 +431,8 @@ fn trim_all<V: Drop>(groups: &mut [Group<V>]) -> Result<(), AllocError>
     Ok(())
 }
 
-/// Gives each group whose list is full, with fewer than 64 items, a little longer one. Refused at the first one for
-/// which there is no memory.
+/// Gives each group whose list is full, with fewer than 64 items, a slightly longer list. It fails at the first list
+/// for which there is no memory.
 fn grow_all<V: Drop>(alloc: Global, groups: &mut [Group<V>]) -> Result<(), AllocError>
     ensures slots { all_slots groups.new ≡ all_slots groups.old }
     ensures short { past_of (sizes_of groups.new) ≤ past_of (sizes_of groups.old) }
@@ -444,8 +446,8 @@ fn grow_all<V: Drop>(alloc: Global, groups: &mut [Group<V>]) -> Result<(), Alloc
     Ok(())
 }
 
-/// Makes the list of the group of a bucket fit, with at most so many places more where it is full. Answers how many
-/// free places beyond a few it has then.
+/// Makes the list of the group of a bucket fit, with at most `more` more places if it is full. The answer is the number
+/// of free places beyond a few that it then has.
 fn fit_one<V: Drop>(
     alloc: Global,
     groups: &mut [Group<V>],
@@ -469,8 +471,8 @@ fn fit_one<V: Drop>(
     groups[i].fit(alloc, more)
 }
 
-/// Makes the lists of all groups fit, and answers whether each has a free place, or places for a whole group: where memory
-/// fails for one that is full, it stays so. Refused, for want of memory for a shorter one, no list got longer.
+/// Makes the lists of all groups fit. The answer says whether each list has a free place, or places for a whole group:
+/// a full list stays full if its memory fails. On `Err`, when memory fails for a shorter list, no list got longer.
 fn fit_all<V: Drop>(alloc: Global, groups: &mut [Group<V>]) -> Result<bool, AllocError>
     ensures slots { all_slots groups.new ≡ all_slots groups.old }
     ensures short { past_of (sizes_of groups.new) ≤ past_of (sizes_of groups.old) }
@@ -484,8 +486,8 @@ fn fit_all<V: Drop>(alloc: Global, groups: &mut [Group<V>]) -> Result<bool, Allo
     Ok(grow_all(alloc, groups).is_ok())
 }
 
-/// By how many places a full list grows at most: by eight where four more free places beyond a few leave the lists with
-/// no more of them than eight for each two lists, and else by four.
+/// By how many places a full list grows at most. It is eight if four more free places beyond a few leave the lists with
+/// at most eight of them for each two lists; else it is four.
 fn places_more(beyond: u64, lists: usize) -> usize
     requires small { lists < 2 ^ 32 }
     ensures { ((result ≡ 8) × (beyond + 4 ≤ 8 * (lists / 2))) ⊎ ((result ≡ 4) × (8 * (lists / 2) < beyond + 4)) }
@@ -498,9 +500,9 @@ fn places_more(beyond: u64, lists: usize) -> usize
     }
 }
 
-/// How many free places beyond a few so many lists that weren't touched may have, all together, before all are trimmed:
-/// those that full ones grow by, and one more for each list. Once they were trimmed, only removals lead past it, and more of
-/// them than there are lists: so each pays for one list.
+/// How many free places beyond a few this many untouched lists may have, all together, before all are trimmed. They are
+/// the places by which full lists grow, and one more for each list. After a trim only removals can pass this number,
+/// and it takes more of them than there are lists. So each removal pays for one list.
 pub fn most_beyond(lists: usize) -> u64
     requires { lists < 2 ^ 32 }
     ensures { result ≡ most_loose lists }
@@ -508,8 +510,8 @@ pub fn most_beyond(lists: usize) -> u64
     (2 * SLACK * (lists / 2) + lists) as u64
 }
 
-/// Trims all lists where those that weren't touched may have more free places than `most_beyond`, and counts from nothing
-/// then. Refused, for want of memory, the lists have no more places than before, and the count stays.
+/// Trims all lists if the untouched ones may have more free places than `most_beyond`, and then counts from 0. On
+/// `Err`, when memory fails, the lists have at most as many places as before, and the count stays.
 fn trim_due<V: Drop>(groups: &mut [Group<V>], beyond: &mut u64) -> Result<(), AllocError>
     requires small { length groups.old < 2 ^ 32 }
     ensures slots { all_slots groups.new ≡ all_slots groups.old }
@@ -533,9 +535,10 @@ fn trim_due<V: Drop>(groups: &mut [Group<V>], beyond: &mut u64) -> Result<(), Al
     Ok(())
 }
 
-/// Makes the lists fit that may have been touched, and keeps `beyond` a bound of the free places beyond a few of those
-/// that weren't: where it got too large, all are trimmed. Where any may have been touched, and memory fails for one that is
-/// full, any stays so. Refused, for want of memory, the lists have no more places than before, all together.
+/// Makes the lists that may have been touched fit, and keeps `beyond` a bound of the free places beyond a few of the
+/// untouched ones. If `beyond` got too large, all lists are trimmed. If `touched` is `Anywhere`, and memory fails for a
+/// full list, it stays `Anywhere`. On `Err`, when memory fails, the lists have together at most as many places as
+/// before.
 pub fn fit_touched<V: Drop>(
     alloc: Global,
     groups: &mut [Group<V>],
@@ -576,7 +579,7 @@ pub fn fit_touched<V: Drop>(
     Ok(())
 }
 
-/// How many blank lists are kept for so many new keys: none for a single one, unless any list may be full.
+/// How many blank lists are kept for this many new keys: none for a single one, unless any list may be full.
 pub fn blanks_for(touched: Touched, spare: u64, groups: u64) -> u64
     ensures few { result ≤ min spare groups }
     ensures one { spare ≤ 1 → touched ≢ Anywhere → result ≡ 0 }

@@ -126,9 +126,10 @@ fn doubled(alloc: Global, reserved: bool) -> Result<SparseMap<u64>, AllocError> 
 fn a_doubling_hands_a_list_on(rt: HostRuntime) -> Result<(), Fail> {
     let map = doubled(rt.alloc(), true)?;
     assert_eq!(rt; map.buckets(), 128);
-    // The list of five places is that of the second group, where a new one would have three. Two blank lists have 64 each.
+    // The list of five places belongs to the second group, for which a new list would have three. Two blank lists have
+    // 64 each.
     assert_eq!(rt; map.places(), 1 + 5 + 128);
-    // It was there once, and so was the one blank list before.
+    // It was there only once, and so was the one blank list before.
     assert_eq!(rt; map.peak_places(), 5 + 64 + 1 + 128);
     holds(&rt, &map, 1, Some(10));
     holds(&rt, &map, 3, Some(30));
@@ -241,7 +242,7 @@ fn all_lists_are_trimmed_after_more_removals_than_lists(rt: HostRuntime) -> Resu
         put(&mut map, key, key)?;
     }
     make_room(&mut map, 1)?;
-    // However long it goes on, no more stay free than four for each 32 buckets, and one for each list.
+    // However long this goes on, at most four places for each 32 buckets stay free, and one for each list.
     assert!(rt; map.len() == 40 && map.places() <= 40 + 8 * 4 + 4);
     Ok(())
 }

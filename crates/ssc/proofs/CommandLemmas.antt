@@ -1,4 +1,4 @@
--- What a command answers and leaves, between two states of the cache that holds a list.
+-- The answers of a command, and the lists that it leaves, between two states of a cache that holds a list.
 use Rattle.std.proofs.Common.{◌≡◌, ◌↔◌, ℕ, ◌<◌, ◌==◌, Bool, true, false, cond, Option, Some, None, Result, Ok, Err, OnOk, OnErr, IsTrue, refl, sym, ◌∙◌, ap, subst, arith, inl, inr, eqb-true}
 use Rattle.std.specs.Result.{is_err}
 use Rattle.std.specs.Option.{option_map, is_some}
@@ -37,21 +37,21 @@ use Rattle.merge_engine.proofs.CopyLemmas.{IsReadable, placed_entry}
 
 -- ---- images
 
--- what holds of the pages now holds of each image
+-- a fact that holds of the pages now holds of each image
 image_of : (g : Geometry) (contents : Contents) (undone before after : CacheList) → FlashStandsForOne g contents.flash.page undone before after → (x : Image) → Now contents x → FlashStandsForOne g x.page undone before after
 image_of g contents undone before after stands x now = subst (λ (p : Place → Page). FlashStandsForOne g p undone before after) (sym now.pages) stands
 
--- of a step that is committed with all that was buffered
+-- the images of a step that is committed with all buffered changes
 pub images_after : (g : Geometry) (contents : Contents) (undone before after : CacheList) → FlashStandsForEither g contents.flash.page undone after → (x : Image) → Now contents x → FlashStandsForOne g x.page undone before after
 images_after g contents undone before after (inl s) = image_of g contents undone before after (AsUndone s)
 images_after g contents undone before after (inr s) = image_of g contents undone before after (AsAfter s)
 
--- and of a commit
+-- the images of a commit
 pub images_before : (g : Geometry) (contents : Contents) (undone before after : CacheList) → FlashStandsForEither g contents.flash.page undone before → (x : Image) → Now contents x → FlashStandsForOne g x.page undone before after
 images_before g contents undone before after (inl s) = image_of g contents undone before after (AsUndone s)
 images_before g contents undone before after (inr s) = image_of g contents undone before after (AsBefore s)
 
--- ---- an answer that isn't a refusal, and one that is
+-- ---- an answer that is `Ok`, and one that is `Err`
 
 pub not_refused : {T E P : Type 0} (r : Result T E) (b : Bool) → b ≡ is_err r → b ≡ false → OnOk r P → P
 not_refused (Ok v) b is f h = h
@@ -68,7 +68,7 @@ given_up T a b media.Failed drives = drives
 given_up T a b media.PowerLost drives = drives
 given_up T a b media.OutOfMemory drives = drives
 
--- a command that was refused drove the media as its step did
+-- a command that failed drove the media as its step did
 pub drives_given_up : (T : Type 0) (a b : State) (r : SscError) (e : MediaError) → r ≡ of_media e → DrivesFlash a b (failed {T = T} (Err e)) (lost {T = T} (Err e)) → DrivesFlash a b (ssc_failed {T = T} (Err r)) (ssc_lost {T = T} (Err r))
 drives_given_up T a b r e is drives = subst (λ (x : SscError). DrivesFlash a b (ssc_failed {T = T} (Err x)) (ssc_lost {T = T} (Err x))) (sym is) (given_up T a b e drives)
 

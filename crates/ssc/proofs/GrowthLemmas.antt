@@ -22,7 +22,7 @@ grew_taken old ready new took kept = record {
       (subst (λ b. GrewForGroups old.map (record new.map { group_buckets = b }) ready.map.spare_groups) (sym kept.groups) took.group_buckets));
 }
 
--- the room was there, or was taken; what came then left the buckets
+-- the room was there, or was taken; the step after that left the buckets
 pub grew_written : (c d : Ssc) (new : Parts) → (c.ready ≡ true → d ≡ c) → (c.ready ≡ false → TookRoom c.parts d.parts) → KeepsBuckets d.parts.map new.map → GrewForWrite c.parts new
 grew_written c d new there took kept = elim (cases_Bool c.ready) [
   | inl is ↦ record {

@@ -1,4 +1,4 @@
--- What is buffered between two commands, and the list without it.
+-- The changes that are buffered between two commands, and the list without them.
 use Rattle.std.proofs.Common.{◌≡◌, ◌⊎◌, ℕ, suc, max, ◌+◌, ◌<◌, ◌≤◌, ◌==◌, Bool, true, false, cond, List, [], ◌∷◌, ◌++◌, length, Option, Some, None, refl, sym, ◌∙◌, ap, subst, arith, inl, inr, length-append}
 use Rattle.std.proofs.Math.Nat.{le-max_right}
 use Rattle.std.specs.Option.{option_and_then, option_map}
@@ -35,7 +35,7 @@ use Rattle.ssc.specs.Commands.{PendsWith}
 use Rattle.ssc.specs.Kept.{TakesNoMemory}
 use Rattle.ssc.specs.Steps.{ListsAfter}
 
--- ---- what waits, record by record
+-- ---- the buffered changes, record by record
 
 pub length_waiting : (changes : List Record) → length (waiting changes) ≡ length changes
 length_waiting [] = refl
@@ -60,7 +60,7 @@ few_buffered c contents s holds =
     let own = ap page_records holds.agree.sound.of_one.log in
     omega (arith, few, same, own)
 
--- ---- what may wait beside a list
+-- ---- the changes that may be buffered beside a list
 
 -- no record is a write that is only buffered
 pub none_written : (changes : List Record) → list_any is_write (waiting changes) ≡ false
@@ -71,7 +71,7 @@ none_written (Clean lba ∷ changes) = none_written changes
 none_written (SetGroup group block present dirty ∷ changes) = none_written changes
 none_written (RemoveGroup group ∷ changes) = none_written changes
 
--- nothing is held at an absent address once what is buffered is undone, where no write is
+-- an absent address is still absent once the buffered changes are undone, if none of them is a write
 pub undone_none : (q : List Buffered) (a : ℕ) → list_any is_write q ≡ false → undone_at q a None ≡ None
 undone_none [] a none = refl
 undone_none (Inserted k ∷ q) a none = ap (λ (o : Option Held). cond (a == k) None o) (undone_none q a none) ∙ either_way (a == k)
@@ -97,21 +97,21 @@ waits_push g g' q own s s' back is few waits = record {
 
 -- ---- the cache between two commands
 
--- its parts agree with the flash, the memory of a write is there where it is said to be, and the buckets are few
+-- the parts agree with the flash, the memory of a write is ready if the cache says so, and the buckets are few
 pub record IsSettled (c : Ssc) (contents : Contents) : Type 0 where
   pub agree : PartsAgree c.parts contents
   pub memory : c.ready ≡ true → HasMemory c.parts
   pub few : HasFewBuckets c.parts.map
 
--- a step that changes the log alone leaves the memory
+-- a step that changes only the log leaves the memory
 pub memory_logged : (old new : Parts) → new ≡ record old { log = new.log } → HasMemory old → HasMemory new
 memory_logged old new is memory = subst HasMemory (sym is) (record { pages = memory.pages; groups = memory.groups })
 
--- and the buckets
+-- it also leaves the buckets
 pub few_logged : (old new : Parts) → new ≡ record old { log = new.log } → HasFewBuckets old.map → HasFewBuckets new.map
 few_logged old new is few = subst (λ (m : MapValue). HasFewBuckets m) (sym (ap (λ (p : Parts). p.map) is)) few
 
--- what was loaded, once a checkpoint of it is made
+-- the cache after an opening, once its checkpoint is made
 pub settled_opened : (c : Ssc) (contents : Contents) → c.ready ≡ false → PartsAgree c.parts contents → (parts : Parts) (map : MapValue) → c.parts ≡ record parts { log = c.parts.log } → parts.map ≡ map → HasFewBuckets map → IsSettled c contents
 settled_opened c contents unready agree parts map is same few = record {
   agree = agree;
@@ -119,12 +119,12 @@ settled_opened c contents unready agree parts map is same few = record {
   few = few_logged parts c.parts is (subst (λ (m : MapValue). HasFewBuckets m) (sym same) few);
 }
 
--- a step that takes no memory leaves them few
+-- a step that takes no memory leaves the buckets few
 pub few_stepped : (old new : Parts) (before after : Contents) → PartsAgree old before → PartsAgree new after → TakesNoMemory old new → HasFewBuckets old.map → HasFewBuckets new.map
 few_stepped old new before after was now step few =
     few_kept old.map new.map (now.sound.of_one.map ∙ step.geometry ∙ sym was.sound.of_one.map) step.room step.buckets few
 
--- the memory of a write was asked for, and the map alone may have changed
+-- the cache asked for the memory of a write, and only the map may have changed
 pub holds_reserved : (old new : Ssc) (contents : Contents) (s : CacheList) → new.parts ≡ record old.parts { map = new.parts.map } → new.parts.map.geometry ≡ old.parts.map.geometry → entries_of new ≡ entries_of old
     → (new.ready ≡ true → HasMemory new.parts) → HasFewBuckets new.parts.map → Holds old contents s → Holds new contents s
 holds_reserved old new contents s is same entries memory few holds =
@@ -147,7 +147,7 @@ holds_reserved old new contents s is same entries memory few holds =
 own_map : (parts : Parts) (contents : Contents) → PartsAgree parts contents → IsMap parts.map.geometry parts.map.entries
 own_map parts contents agree = subst (λ (g : Geometry). IsMap g parts.map.entries) (sym agree.sound.of_one.map) (agree_map parts contents agree)
 
--- it was given
+-- the memory was given
 pub holds_taken : (old new : Ssc) (contents : Contents) (s : CacheList) → new.parts ≡ record old.parts { map = new.parts.map } → IsReserved 1 old.parts.geometry.p old.parts.map new.parts.map → Holds old contents s → Holds new contents s
 holds_taken old new contents s is taken holds =
     let pages = le-max_right old.parts.map.spare_pages 1 in
@@ -160,7 +160,7 @@ holds_taken old new contents s is taken holds =
     })
     ((keeps_reserved 1 old.parts.geometry.p old.parts.map new.parts.map (omega arith) (subst (λ (g : Geometry). old.parts.geometry.p ≤ most_groups g) (sym holds.agree.sound.of_one.map) (few_of_block old.parts.geometry)) taken).few (own_map old.parts contents holds.agree) holds.few) holds
 
--- it was refused
+-- the memory was refused
 pub holds_refused : (old new : Ssc) (contents : Contents) (s : CacheList) → new.parts ≡ record old.parts { map = new.parts.map } → new.ready ≡ false → new.parts.map.geometry ≡ old.parts.map.geometry → entries_of new ≡ entries_of old
     → new.parts.map.spare_pages ≡ old.parts.map.spare_pages → new.parts.map.spare_groups ≡ old.parts.map.spare_groups
     → (new.parts.map.buckets ≡ old.parts.map.buckets) ⊎ GrewForPages old.parts.map new.parts.map (max old.parts.map.spare_pages 1) → new.parts.map.group_buckets ≡ old.parts.map.group_buckets
@@ -183,12 +183,12 @@ holds_from c contents s durable buffered settled is undone lists kinds waits = r
 pub holds_committed : (c : Ssc) (contents : Contents) (s : CacheList) → IsSettled c contents → c.parts.log.buffered ≡ [] → Lists c.parts contents.flash.page s s → Holds c contents s
 holds_committed c contents s settled is lists = holds_from c contents s s [] settled is refl lists refl (waits_none (geometry_of c) s)
 
--- a step that waits, in a record of its own, and that can be taken back
+-- a step that is buffered, in a record of its own, and can be taken back
 module _ (s s' : CacheList) (own : Record)
     (may : may_wait own ≡ true)
     (back : taken_back (waiting_as own) s' ≡ s)
     (left : IsLeftBy (waiting_as own) s') where
-  -- behind all that was buffered
+  -- the step is buffered behind all buffered changes
   holds_behind : (old new : Ssc) (contents contents' : Contents) → Holds old contents s → IsSettled new contents' → length new.parts.log.buffered < page_records new.parts.log.geometry
       → new.parts.log.buffered ≡ old.parts.log.buffered ++ own ∷ [] → Lists new.parts contents'.flash.page s' (undo (pending old) s) → Holds new contents' s'
   holds_behind old new contents contents' holds settled few is lists =
@@ -200,7 +200,7 @@ module _ (s s' : CacheList) (own : Record)
       (kinds_push old.parts.log.buffered own may holds.kinds)
       (subst (λ (l : List Buffered). MayWait (geometry_of new) l s') (sym pushed) (waits_push (geometry_of old) (geometry_of new) q (waiting_as own) s s' back left count holds.waits))
 
-  -- alone
+  -- the step is buffered alone
   holds_alone : (new : Ssc) (contents' : Contents) → IsSettled new contents' → new.parts.log.buffered ≡ own ∷ [] → Lists new.parts contents'.flash.page s' s → Holds new contents' s'
   holds_alone new contents' settled is lists =
       holds_from new contents' s' s (own ∷ []) settled is back lists (and_from _ _ may refl)
@@ -211,7 +211,7 @@ module _ (s s' : CacheList) (own : Record)
   holds_after old new contents contents' holds settled few (inr (inl k)) = holds_alone new contents' settled k.0 k.1
   holds_after old new contents contents' holds settled few (inr (inr k)) = holds_committed new contents' s' settled k.0 k.1
 
--- what is buffered then
+-- the changes that are buffered after that
 pub pends_after : (own : Record) (old new : Ssc) (contents' : Contents) (durable before list : CacheList) → ListsAfter old.parts.log.buffered own new.parts contents'.flash.page durable before list → PendsWith (pending old) (pending new) (waiting_as own)
 pends_after own old new contents' durable before list (inl k) = inl (ap waiting k.0 ∙ waiting_push old.parts.log.buffered own)
 pends_after own old new contents' durable before list (inr (inl k)) = inr (inl (ap waiting k.0))
@@ -244,7 +244,7 @@ module _ (s : CacheList) (lba : ℕ) (h : Held) (is : get s lba ≡ Some h) (dir
 
 -- ---- entries and the list
 
--- an address is held exactly where it has an entry
+-- an address is held exactly when it has an entry
 pub held_none : (c : Ssc) (contents : Contents) (s : CacheList) (a : ℕ) → Holds c contents s → get (entries_of c) a ≡ None → get s a ≡ None
 held_none c contents s a holds none = holds.lists.held a ∙ ap (option_and_then (held_at contents.flash.page)) none
 

@@ -1,4 +1,4 @@
--- The list of a map on the flash, and the list that flash stands for.
+-- The list of a map on the flash, and the list for which flash stands.
 use Rattle.std.proofs.Common.{◌≡◌, ℕ, ◌==◌, Bool, true, false, cond, List, [], ◌∷◌, Option, Some, None, Ok, refl, sym, ◌∙◌, ap, nat_cmp}
 use Rattle.std.specs.Option.{option_and_then}
 use Rattle.std.specs.List.{AllByRecursion}

@@ -1,4 +1,4 @@
--- The dirty addresses of a range, told from the entries.
+-- The dirty addresses of a range, found from the entries.
 use Rattle.std.proofs.Common.{◌≡◌, ℕ, suc, ◌+◌, ◌*◌, ◌-◌, ◌<◌, ◌≤◌, ◌&&◌, nat_le, nat_lt, ◌==◌, Bool, true, false, cond, T, List, [], ◌∷◌, ◌++◌, length}
 use Rattle.std.proofs.Common.{get_or, take, drop, map, filter, count_by, Option, Some, None, refl, sym, ◌∙◌, ap, subst, arith, nat_cmp, inl, inr, lt-ltb, eqb-true, ne_eqb, eq-eqb, append_assoc, length-append}
 use Rattle.std.specs.Option.{option_map, unwrap_or}
@@ -63,7 +63,7 @@ abbrev pub times_below : Geometry → ℕ → ℕ → ℕ → ℕ → Option Ent
 times_below g from to end a None = 0
 times_below g from to end a (Some e) = one_if (is_dirty_from from to (a, e) && nat_lt (number_of g e.place) end)
 
--- behind what was there comes each listed address once whose page has a number below the end
+-- the old items come first, and then once each listed address whose page has a number below the end
 pub record ListedSoFar (g : Geometry) (m : Entries) (from to end : ℕ) (old now : List ℕ) : Type 0 where
   pub found : List ℕ
   pub items : now ≡ old ++ found
@@ -149,13 +149,13 @@ listed_all g m from to end old now numbered so_far = record {
     whole a None low = refl
     whole a (Some e) low = drop_test (is_dirty_from from to (a, e)) (nat_lt (number_of g e.place) end) (lt-ltb _ _ (low e refl))
 
--- what was there is still the front
+-- the old items are still the front
 pub listed_front : (g : Geometry) (m : Entries) (from to end : ℕ) (old now : List ℕ) → ListedSoFar g m from to end old now → take (length old) now ≡ old
 listed_front g m from to end old now so_far = ap (take (length old)) so_far.items ∙ take-append_seam old so_far.found
 
 -- ---- how often each number is in a list
 
--- what holds of each member holds of one that is counted
+-- a fact that holds of each member holds of a number that is counted
 all_counted : (P : ℕ → Type 0) (ns : List ℕ) (a : ℕ) → AllByRecursion P ns → 1 ≤ count_by (λ n. n == a) ns → P a
 all_counted P [] a all some = absurd (omega arith)
 all_counted P (n ∷ ns) a all some = elim (cases_Bool (n == a)) [
@@ -172,7 +172,7 @@ Rises (n ∷ ns) = AllByRecursion (λ k. n ≤ k) ns × Rises ns
 first_counted : (n : ℕ) (ns : List ℕ) → 1 ≤ count_by (λ k. k == n) (n ∷ ns)
 first_counted n ns = let cons = sum_by-cons (λ k. one_if (k == n)) n ns in let one : one_if (n == n) ≡ 1 = ap one_if (eq-eqb n n refl) in omega arith
 
--- two such lists that have each number as often are one
+-- two such lists that have each number equally often are equal
 same_rising : (ns ks : List ℕ) → Rises ns → Rises ks → ((a : ℕ) → count_by (λ n. n == a) ns ≡ count_by (λ n. n == a) ks) → ns ≡ ks
 same_rising [] [] up up' same = refl
 same_rising [] (k ∷ ks) up up' same = let some = first_counted k ks in let none = same k in absurd (omega arith)
@@ -257,7 +257,7 @@ module _ (from end : ℕ) where
       by true low rest = (low, rest)
       by false low rest = rest
 
--- what a sort leaves rises
+-- a sorted list rises
 rises_sorted : (ns : List ℕ) → IsNonDecreasingBy (λ n. n) ns → Rises ns
 rises_sorted [] up = tt
 rises_sorted (n ∷ ns) up = (later ns (λ i low. up 0 (suc i) 0 (omega arith) (omega arith)), rises_sorted ns (λ i j d le low. up (suc i) (suc j) d (omega arith) (omega arith)))
@@ -266,7 +266,7 @@ rises_sorted (n ∷ ns) up = (later ns (λ i low. up 0 (suc i) 0 (omega arith) (
     later [] each = tt
     later (k ∷ ks) each = (each 0 (omega arith), later ks (λ i low. each (suc i) (omega arith)))
 
--- the sorted addresses are those of the entries
+-- the sorted addresses are the addresses of the entries
 pub sorted_listed : (from end : ℕ) (m : Entries) (found sorted : List ℕ) → ((a : ℕ) → count_by (λ n. n == a) found ≡ times_listed from end a (get m a)) → IsPermutation found sorted → IsNonDecreasingBy (λ n. n) sorted → sorted ≡ listed from end (entries m)
 sorted_listed from end m found sorted each moved up = same_rising sorted (listed from end (entries m)) (rises_sorted sorted up) (listed_rises from end (entries m) (sorted_entries m)) (λ a.
     sum_by-IsPermutation (λ n. one_if (n == a)) found sorted moved
@@ -350,7 +350,7 @@ length_marks : {X : Type 0} (dirty : X → Bool) (es : List (ℕ × X)) → leng
 length_marks dirty [] = refl
 length_marks dirty (e ∷ es) = ap suc (length_marks dirty es)
 
--- the dirty entries are those of a list that is dirty where they are
+-- the dirty entries are the entries of a list that is dirty at the same addresses
 pub listed_alike : (m : Entries) (s : CacheList) → ((a : ℕ) → option_map (λ (h : Held). h.dirty) (get s a) ≡ option_map (λ (e : Entry). e.dirty) (get m a)) → (from count : ℕ) → listed from (from + count) (entries m) ≡ dirty_between from count s
 listed_alike m s alike from count =
     by_marks (λ (e : Entry). e.dirty) from (from + count) (entries m)
@@ -368,7 +368,7 @@ module _ (c : Ssc) (contents : Contents) (s : CacheList) (holds : Holds c conten
   pub listed_is : (from count : ℕ) → listed from (from + count) (entries (entries_of c)) ≡ dirty_between from count s
   listed_is from count = listed_alike (entries_of c) s dirty_alike from count
 
-  -- as many entries as are held
+  -- there are as many entries as held blocks
   pub held_same : length (entries (entries_of c)) ≡ length (entries s)
   held_same =
       sym (length_marks (λ (e : Entry). e.dirty) (entries (entries_of c)))

@@ -18,14 +18,14 @@ use Rattle.mapping.proofs.NumbersLemmas.{number_tells}
 
 -- ---- one number, one place
 
--- entries of one number are those of one address
+-- entries with one number have one address
 pub one_address : (g : Geometry) (m : Entries) → IsMap g m → (a b : ℕ) (e f : Entry) → get m a ≡ Some e → get m b ≡ Some f → number_of g e.place ≡ number_of g f.place → a ≡ b
 one_address g m is_map a b e f there there' is = is_map.apart a b e f there there' (number_tells g e.place f.place (is_map.in_pool a e there) (is_map.in_pool b f there') is)
 
 pub same_entry : (m : Entries) (a b : ℕ) (e f : Entry) → a ≡ b → get m a ≡ Some e → get m b ≡ Some f → e ≡ f
 same_entry m a b e f same there there' = let both : Some e ≡ Some f = sym there ∙ ap (get m) same ∙ there' in cc
 
--- what is true of the one entry of a number
+-- a fact that is true of the one entry with a number
 pub the_entry : (g : Geometry) (m : Entries) → IsMap g m → (i a : ℕ) (at : Place) (has : HasNumber g m i (a, at)) (P : ℕ × Entry → Type 0) → P (a, has.owns.0) → (b : ℕ) (f : Entry) → get m b ≡ Some f → number_of g f.place ≡ i → P (b, f)
 the_entry g m is_map i a at has P here b f there number =
     let own : number_of g has.owns.0.place ≡ i = ap (number_of g) has.owns.2 ∙ has.number in
@@ -40,7 +40,7 @@ sorted_entries m = holds (is_sorted nat_cmp (entries m)) (entries_sorted m)
 
 -- ---- how many entries have a number, and how many a number below one
 
--- what a test counts
+-- the number that a test adds to a count
 abbrev pub one_if : Bool → ℕ
 one_if b = cond b 1 0
 
@@ -91,7 +91,7 @@ module _ {X : Type 0} (n : ℕ × X → ℕ) where
       let first : one_if (n x == i) ≡ 0 = ap one_if (ne_eqb (n x) i all.0) in
       omega arith
 
-  -- behind the one entry that has the number no other has it
+  -- behind the one entry that has the number, no other entry has it
   others : (i a k : ℕ) (es : List (ℕ × X)) → a ≡ k → below_all nat_cmp k es ≡ true → AllByRecursion (λ x. n x ≡ i → x.0 ≡ a) es → AllByRecursion (λ x. n x ≡ i → ⊥) es
   others i a k [] same low all = tt
   others i a k (x ∷ es) same low all =
@@ -124,7 +124,7 @@ abbrev pub number : Geometry → ℕ × Entry → ℕ
 number g x = number_of g x.1.place
 
 module _ (g : Geometry) (m : Entries) where
-  -- one entry more has a number below the next one
+  -- one more entry has a number below the next one
   pub one_more : IsMap g m → (a i : ℕ) (e : Entry) → get m a ≡ Some e → number_of g e.place ≡ i → below (number g) (i + 1) (entries m) ≡ below (number g) i (entries m) + 1
   one_more is_map a i e is its =
       let more = below_more (number g) i (entries m) in

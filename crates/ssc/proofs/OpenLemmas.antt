@@ -1,4 +1,4 @@
--- A cache is opened: what was loaded is its map, and a checkpoint of it is made.
+-- A cache is opened: its map is the loaded one, and a checkpoint of it is made.
 use Rattle.std.proofs.Common.{◌≡◌, ◌≢◌, ℕ, ◌+◌, ◌-◌, ◌%◌, ◌≤◌, ◌==◌, Bool, true, false, List, [], Option, Some, None, Result, Ok, Err, nat_cmp, refl, sym, ◌∙◌, ap, subst, arith, inl, inr}
 use Rattle.std.specs.Option.{option_and_then, option_map}
 use Rattle.std.specs.Prelude.{IfErr}
@@ -64,7 +64,7 @@ reads_drives a b f l off reads = record {
     dark true is lost = absurd (let stays : l ≡ false = reads.on is in let both : true ≡ false = sym lost ∙ stays in cc)
     dark false is lost = is
 
--- ---- what was loaded
+-- ---- the map that was loaded
 
 loaded_current : (g : Geometry) (page : Place → Page) (loaded : Loaded) (log : LogValue) (m : Entries) → IsLoaded g page loaded → m ≡ loaded.map.entries → log ≡ record { geometry = g; region = loaded.region; era = loaded.era; next = 0; buffered = [] } → IsCurrent page log m
 loaded_current g page loaded log m is same log_is = subst (λ (l : LogValue). IsCurrent page l m) (sym log_is) (subst (λ (n : Entries). IsCurrent page (record { geometry = g; region = loaded.region; era = loaded.era; next = 0; buffered = [] }) n) (sym same) (record {
@@ -114,7 +114,7 @@ module _ (g : Geometry) (old mid : Contents) (loaded : Loaded) (parts : Parts) (
     stands = subst (λ (h : Geometry). FlashStandsFor h old.flash.page s) (sym as_is.geometry) stands;
   })
 
-  -- whatever the checkpoint answers, the flash stands for what it stood for
+  -- whatever the checkpoint answers, the flash still stands for the same list
   pub images_loaded : (new : Contents) → ((list durable : CacheList) → Lists parts mid.flash.page list durable → FlashStandsForEither parts.geometry new.flash.page durable list) → (s : CacheList) → FlashStandsFor g old.flash.page s → (x : Image) → Now new x → FlashStandsFor g x.page s
   images_loaded new either s stands x now = subst (λ (p : Place → Page). FlashStandsFor g p s) (sym now.pages) (subst (λ (h : Geometry). FlashStandsFor h new.flash.page s) as_is.geometry (by (either s s (lists_loaded s stands))))
     where
@@ -122,7 +122,7 @@ module _ (g : Geometry) (old mid : Contents) (loaded : Loaded) (parts : Parts) (
       by (inl same) = same
       by (inr same) = same
 
-  -- nor is it loaded as another map
+  -- the flash still loads the same map
   pub load-loaded : (new : Contents) → LoadsOneOf parts.geometry mid.flash.page new.flash.page parts.map.entries → load g new.flash.page ≡ load g old.flash.page
   load-loaded new one = by (subst (λ (h : Geometry). LoadsOneOf h old.flash.page new.flash.page parts.map.entries) as_is.geometry (subst (λ (k : Contents). LoadsOneOf parts.geometry k.flash.page new.flash.page parts.map.entries) read one))
     where
@@ -130,13 +130,13 @@ module _ (g : Geometry) (old mid : Contents) (loaded : Loaded) (parts : Parts) (
       by (inl done) = done ∙ ap Ok entries_is ∙ sym is.loads
       by (inr same) = same
 
--- ---- what an opening costs
+-- ---- the cost of an opening
 
 -- a read that neither failed nor was cut
 reads_as : (a b : State) (f l : Bool) → ReadsFlash a b f l → f ≡ false → l ≡ false → ReadsFlash a b false false
 reads_as a b f l reads no_fault no_cut = subst (λ (x : Bool). ReadsFlash a b x false) no_fault (subst (λ (x : Bool). ReadsFlash a b f x) no_cut reads)
 
--- an opening that was refused by a read
+-- an opening that failed at a read
 pub refused_reads : (g : Geometry) (a b : State) (T : Type 0) (r : Result Ssc OpenError) (e : OpenError) → IsErrAnd r (λ own. own ≡ e) → ReadsFlash a b (open_failed {T = T} (Err e)) (open_lost {T = T} (Err e)) → CostsOpening g a b r
 refused_reads g a b T (Ok v) e is reads = absurd is
 refused_reads g a b T (Err own) e is reads = record {
@@ -160,7 +160,7 @@ made_checkpoint g a b loaded parts new c is as_is same log adds pool own =
       pool = subst (λ (h : Geometry). PoolStays h a.contents.flash.page b.contents.flash.page) as_is.geometry pool;
     }
 
--- nothing of the log is used
+-- no page of the log is used
 pub full_room : (parts : Parts) (g : Geometry) → parts.geometry ≡ g → parts.log.next ≡ 0 → log_pages parts.geometry - parts.log.next ≡ log_pages g
 full_room parts g same next = let pages : log_pages parts.geometry ≡ log_pages g = ap (λ (h : Geometry). log_pages h) same in omega arith
 
@@ -215,7 +215,7 @@ module _ (g h : Geometry) (a m b : State) (same : h ≡ g) (reads : ReadsFlash a
   pub costs_read : (r : Result Ssc OpenError) → IfErr r IsOfFlash → CostsOpening h m b r → CostsOpening g a b r
   costs_read r of costs = costs_same r of (subst (λ (n : Geometry). CostsOpening n m b r) same costs)
 
--- a refusal of the flash, or of power, comes by itself
+-- an error of the flash, or of power, comes by itself
 pub refused_flash : {A : Type 0} (g : Geometry) (loads : Result A Refusal) (r : Result Ssc OpenError) → IfErr r IsOfFlash → IfErr r (λ e. IsRefusal g e loads)
 refused_flash g loads (Ok c) of = tt
 refused_flash g loads (Err FlashFault) of = tt
@@ -226,7 +226,7 @@ refused_flash g loads (Err (Damaged block page)) of = absurd of
 refused_flash g loads (Err DiskFault) of = absurd of
 refused_flash g loads (Err OutOfMemory) of = absurd of
 
--- what the flash stands for is dirty where the entries are
+-- the list for which the flash stands is dirty at the addresses at which the entries are
 pub loaded_alike : (g : Geometry) (page : Place → Page) (m : Entries) (s : CacheList) → load g page ≡ Ok m → FlashStandsFor g page s → (a : ℕ) → option_map (λ (h : Held). h.dirty) (get s a) ≡ option_map (λ (e : Entry). e.dirty) (get m a)
 loaded_alike g page m s loads stands a = by (get m a) refl
   where

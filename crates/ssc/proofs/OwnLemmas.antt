@@ -24,7 +24,7 @@ use Rattle.ssc.proofs.HoldsLemmas.{none_written}
 
 -- ---- at one address
 
--- what is held at an address has the spare bytes of a data page of the address
+-- the block that is held at an address has the spare bytes of a data page of the address
 abbrev pub IsOwnAt : ℕ → Option Held → Type 0
 IsOwnAt a o = (h : Held) → o ≡ Some h → h.spare ≡ data_spare a
 
@@ -87,9 +87,9 @@ cleaned_own a s own = by_held (get s a) refl
 pub empty_own : AreOwn empty
 empty_own a = own_as a (get empty a) None (get-empty nat_cmp a) (own_none a)
 
--- ---- of commands
+-- ---- the lists after commands
 
--- what is only buffered is undone
+-- the buffered changes are undone
 undone_loads : (c : Ssc) (page : Place → Page) (s : CacheList) → AreOwn s → FlashStandsFor (geometry_of c) page (undo (pending c) s) → LoadsOwn (geometry_of c) page
 undone_loads c page s own stands = record { list = undo (pending c) s; stands = stands; own = undone_own c.parts.log.buffered s own }
 
@@ -123,7 +123,7 @@ module _ (old new : Ssc) (contents contents' : Contents) (lba : ℕ) (block : Bl
     λ up. let written = done up was.list was.holds in own_written written.left written.holds (vanish_own (geometry_of new) was.list lba written.left written.vanish was.own),
   )
 
--- where nothing was done on the flash
+-- if nothing was done on the flash
 pub kept_held : (old new : Ssc) (contents : Contents) → ((s : CacheList) → Holds old contents s → Holds new contents s) → KeepsOwn old contents new contents
 kept_held old new contents holds was = (
   λ x now. undone_loads old x.page was.list was.own (subst (λ (page : Place → Page). FlashStandsFor (geometry_of old) page (undo (pending old) was.list)) (sym now.pages) was.holds.lists.stands),

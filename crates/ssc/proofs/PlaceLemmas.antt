@@ -39,7 +39,7 @@ module _ (parts : Parts) (contents : Contents) (agree : PartsAgree parts content
   in_pool : InPool parts.geometry at
   in_pool = let pool = agree.sound.roles.in_pool at.block fresh.in_use in record { above = pool.0; below = pool.1; page = fresh.in_block }
 
-  -- what is page-mapped stands in log blocks that are in use, and of these there are at most L
+  -- page-mapped entries stand in log blocks that are in use, and there are at most L of these
   in_log_blocks : (a : ℕ) (e : Entry) → get new a ≡ Some e → page_mapped e ≡ true → IsInUse parts.log_blocks e.place.block
   in_log_blocks a e is t = elim (page_cases g m is_map lba at dirty a e is) [
     | inl p ↦ subst (λ (x : Entry). IsInUse parts.log_blocks x.place.block) (sym p.1) fresh.in_use

@@ -38,7 +38,7 @@ use Rattle.ssc.proofs.NumberLemmas.{all_below, below_none, none_more, number, on
 
 -- ---- one page
 
--- the spare bytes that were read are those of a data page of the address, or not
+-- the spare bytes that were read are a data page's of the address, or not
 pub own_page : (q : Page) (got : PageRead) (block : Block) (spare own : Spare) (lba : ℕ) (same : Bool) → Found q got block spare → got ≡ read.Whole → own.0 ≡ spelled_spare (spare_fields DataPage 0 lba) → same ≡ bytes_eq spare.0 own.0
     → IsTrue same ↔ ((b : Block) × (q ≡ Whole b (data_spare lba)))
 own_page Blank got block spare own lba same found whole spelled is = absurd (let both : read.Blank ≡ read.Whole = sym found ∙ whole in cc)
@@ -58,7 +58,7 @@ own_page (Whole b s) got block spare own lba same found whole spelled is =
 
 -- ---- the list of the entries
 
--- where each page is a data page of its address, each block that is held has spare bytes of its own
+-- if each page is a data page of its address, each held block has spare bytes of its own address
 own_from : (page : Place → Page) (m : Entries) (s : CacheList) → IsListOn page m s → AreDataPages page m → AreOwn s
 own_from page m s on pages a h is = by_entry (get m a) refl
   where
@@ -70,7 +70,7 @@ own_from page m s on pages a h is = by_entry (get m a) refl
         let same : held own.0 (data_spare a) e.dirty ≡ h = cc in
         sym (ap (λ (x : Held). x.spare) same)
 
--- and then no page is strange
+-- in that case no page is strange
 never_strange : (page : Place → Page) (m : Entries) (s : CacheList) → IsListOn page m s → AreWhole page m → AreOwn s → (at : Place) → IsStrange page m at → ⊥
 never_strange page m s on whole own at strange = strange.other (subst (λ (p : Place). IsDataPage page p strange.lba) strange.place (by_page (page strange.entry.place) refl (whole.whole strange.lba strange.entry strange.held)))
   where
@@ -93,7 +93,7 @@ own_scrub g page m scrub s is on whole = (
 
 -- ---- media that are only read
 
--- a call that was refused after others that only read
+-- a call that failed after others that only read
 pub reads_refused : {T : Type 0} (a b c : State) (r : Result T SscError) (e : SscError) → IsErrAnd r (λ x. x ≡ e) → ReadsFlash a b false false → ReadsFlash b c (ssc_failed {T = T} (Err e)) (ssc_lost {T = T} (Err e)) → ReadsFlash a c (ssc_failed r) (ssc_lost r)
 reads_refused a b c (Ok v) e is first later = absurd is
 reads_refused {T} a b c (Err x) e is first later = subst (λ (y : SscError). ReadsFlash a c (ssc_failed {T = T} (Err y)) (ssc_lost {T = T} (Err y))) (sym is) (reads_then a b c _ _ first later)

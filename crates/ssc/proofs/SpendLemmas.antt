@@ -13,7 +13,7 @@ spends_both a b c m n passes first then = λ on armed.
     let two = then s.on (λ none. armed (sym s.stops ∙ none)) in
     omega arith
 
--- what comes after spends no fewer
+-- calls after a call don't lower the device writes that are spent
 pub spends_on : (a b c : State) (n : ℕ) → Passes a b false → Spends n a b → Passes b c false → Spends n a c
 spends_on a b c n passes first later = λ on armed.
     let s = passes.stayed on refl in
@@ -22,7 +22,7 @@ spends_on a b c n passes first later = λ on armed.
     let two = t.falls (λ none. armed (sym s.stops ∙ none)) in
     omega arith
 
--- two pages are one at least
+-- if two pages are programmed, at least one is
 pub puts_one : (old new : Parts) (a b : State) → PutsPages 2 old new a b → PutsPages 1 old new a b
 puts_one old new a b puts = record {
   programs = record { count = puts.programs.count; spends = λ on armed. let two = puts.programs.spends on armed in omega arith };

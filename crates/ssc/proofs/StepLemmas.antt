@@ -20,7 +20,7 @@ removed_fits parts contents lba agree low = remove_fits parts.geometry lba parts
 pub cleaned_fits : (parts : Parts) (contents : Contents) (lba : ℕ) → PartsAgree parts contents → lba < parts.geometry.size → Fits parts.geometry (Clean lba) parts.map.entries
 cleaned_fits parts contents lba agree low = clean_fits parts.geometry lba parts.map.entries (agree_map parts contents agree) low
 
--- a change that was buffered waits, or is committed with all
+-- a change that was buffered still is, or is committed with all others
 pub after_pushed : (log : LogValue) (mid new : Parts) (change : Record) (page : Place → Page) (durable before list : CacheList) → mid.log ≡ pushed change log
     → ((new.log ≡ mid.log) × Lists new page list durable) ⊎ ((new.log.buffered ≡ []) × Lists new page list list)
     → ListsAfter log.buffered change new page durable before list

@@ -1,4 +1,4 @@
--- What a write answers and leaves, between two states of the cache that holds a list.
+-- The answers of a write, and the lists that it leaves, between two states of a cache that holds a list.
 use Rattle.std.proofs.Common.{◌≡◌, ℕ, ◌+◌, ◌-◌, ◌/◌, ◌<◌, ◌≤◌, false, List, [], ◌∷◌, ◌++◌, length, Option, Some, None, Err, refl, sym, ◌∙◌, ap, subst, arith, inl, inr}
 use Rattle.std.specs.FinMap.{get, insert}
 use Rattle.std.proofs.lemmas.Bool.{false≢true}
@@ -64,7 +64,7 @@ image_written g page undone before a step (inl s) = AsUndone s
 image_written g page undone before a step (inr (v, gives, inl s)) = AsLeft v (gave_vanish g before v a gives) s
 image_written g page undone before a step (inr (v, gives, inr s)) = AsWritten v (gave_vanish g before v a gives) s
 
--- what holds of the pages now holds of each image
+-- a fact that holds of the pages now holds of each image
 pub images_written : (old r : Ssc) (contents : Contents) (s : CacheList) (a : ℕ) (step : CacheList → CacheList) → geometry_of r ≡ geometry_of old → pending r ≡ pending old → FlashStandsForStep (geometry_of r) contents.flash.page (undo (pending r) s) s step → ImagesOfWrite old contents s a step
 images_written old r contents s a step same waits stands x now =
     subst (λ (p : Place → Page). FlashStandsForWrite (geometry_of old) p (undo (pending old) s) s a step) (sym now.pages)
@@ -72,16 +72,16 @@ images_written old r contents s a step same waits stands x now =
     (subst (λ (g : Geometry). FlashStandsForStep g contents.flash.page (undo (pending old) s) s step) same
     (subst (λ q. FlashStandsForStep (geometry_of r) contents.flash.page (undo q s) s step) waits stands)))
 
--- where nothing could give way
+-- if nothing could give way
 pub images_kept : (old r : Ssc) (contents : Contents) (s after : CacheList) → geometry_of r ≡ geometry_of old → pending r ≡ pending old → FlashStandsForOne (geometry_of r) contents.flash.page (undo (pending r) s) s after → ImagesOf old contents s after
 images_kept old r contents s after same waits stands x now =
     subst (λ (p : Place → Page). FlashStandsForOne (geometry_of old) p (undo (pending old) s) s after) (sym now.pages)
     (subst (λ (g : Geometry). FlashStandsForOne g contents.flash.page (undo (pending old) s) s after) same
     (subst (λ q. FlashStandsForOne (geometry_of r) contents.flash.page (undo q s) s after) waits stands))
 
--- ---- what the cache holds
+-- ---- the list that the cache holds
 
--- the cache holds the list after the step, on what is left of it
+-- the cache holds the list after the step, which was made on the list that is left
 abbrev pub HoldsLeft : Parts → Ssc → Contents → CacheList → (CacheList → CacheList) → Type 0
 HoldsLeft parts new contents s step = (v : CacheList) × LeftOf parts s v × Holds new contents (step v)
 
@@ -103,18 +103,18 @@ settled_unready old new before after s holds unready agree step = record {
   few = few_stepped old.parts new.parts before after holds.agree agree step holds.few;
 }
 
--- all is committed
+-- all changes are committed
 pub left_committed : (parts : Parts) (new : Ssc) (contents : Contents) (s : CacheList) (lba : ℕ) (block : Held) → IsSettled new contents → new.parts.log.buffered ≡ []
     → (v : CacheList) × LeftOf parts s v × Lists new.parts contents.flash.page (insert v lba block) (insert v lba block)
     → HoldsLeft parts new contents s (λ v. insert v lba block)
 left_committed parts new contents s lba block settled none x = (x.0, x.1, holds_committed new contents (insert x.0 lba block) settled none x.2)
 
--- a clean block at an address that was absent may wait
+-- a clean block at an address that was absent may be buffered
 module _ (r new : Ssc) (contents contents' : Contents) (s : CacheList) (lba : ℕ) (block : Block) (holds : Holds r contents s) (settled : IsSettled new contents') (few : length new.parts.log.buffered < page_records new.parts.log.geometry) where
   same_of : LeftOf r.parts s s
   same_of = record { gives = inl refl; inside = λ room. refl }
 
-  -- with nothing else
+  -- it is buffered alone
   holds_alone : (v : CacheList) (at : Place) → get v lba ≡ None → ListsAfter [] (SetPage lba at false) new.parts contents'.flash.page v v (written_clean lba block v) → Holds new contents' (written_clean lba block v)
   holds_alone v at absent (inl k) = inserted_alone v lba at block absent new contents' settled k.0 k.1
   holds_alone v at absent (inr (inl k)) = inserted_alone v lba at block absent new contents' settled k.0 k.1
@@ -131,7 +131,7 @@ module _ (r new : Ssc) (contents contents' : Contents) (s : CacheList) (lba : �
   none_after buffered own d before l none (inr (inl k)) = absurd (push_some [] own (sym k.0 ∙ none))
   none_after buffered own d before l none (inr (inr k)) = k.1
 
-  -- over a held one it was committed
+  -- over a held block it was committed
   pub left_held : new.parts.log.buffered ≡ [] → PutsBlock r.parts lba (written_block lba block false) new.parts contents'.flash.page (undo (pending r) s) s → HoldsLeft r.parts new contents' s (written_clean lba block)
   left_held none (at, inl after) = (s, same_of, holds_committed new contents' (written_clean lba block s) settled none (none_after r.parts.log.buffered (SetPage lba at false) (undo (pending r) s) s (written_clean lba block s) none after))
   left_held none (at, inr (v, left, after)) = (v, left, holds_committed new contents' (written_clean lba block v) settled none (none_after [] (SetPage lba at false) v v (written_clean lba block v) none after))
@@ -144,7 +144,7 @@ module _ (r new : Ssc) (contents contents' : Contents) (s : CacheList) (lba : �
       by None is = left_absent (absent is) puts
       by (Some e) is = left_held (over e is) puts
 
--- ---- what is buffered then
+-- ---- the changes that are buffered after that
 
 pub pends_written : (r new : Ssc) (contents' : Contents) (s durable : CacheList) (lba : ℕ) (block : Block) → PutsBlock r.parts lba (written_block lba block false) new.parts contents'.flash.page durable s → PendsWith (pending r) (pending new) (Inserted lba)
 pends_written r new contents' s durable lba block (at, inl after) = pends_after (SetPage lba at false) r new contents' durable s (written_clean lba block s) after
@@ -164,7 +164,7 @@ none_of_absent r contents s lba holds none = by (get (entries_of r) lba) refl
     by None is = is
     by (Some e) is = let h = held_some r contents s lba e holds is in absurd (let both : None ≡ Some h.0 = sym none ∙ h.1 in cc)
 
--- what is held has an entry
+-- an address that is held has an entry
 pub over_held : (r new : Ssc) (contents : Contents) (s : CacheList) (lba : ℕ) → Holds r contents s → IsHeldIn s lba → ((e : Entry) → get (entries_of r) lba ≡ Some e → new.parts.log.buffered ≡ []) → pending new ≡ []
 over_held r new contents s lba holds there over = by (get (entries_of r) lba) refl
   where
@@ -172,7 +172,7 @@ over_held r new contents s lba holds there over = by (get (entries_of r) lba) re
     by None is = absurd (let both : None ≡ Some there.0 = sym (held_none r contents s lba holds is) ∙ there.1 in cc)
     by (Some e) is = ap waiting (over e is)
 
--- ---- the memory was taken, and all else is as before
+-- ---- the memory was taken, and all else is unchanged
 
 pub log_left : (old r : Ssc) → r.parts ≡ record old.parts { map = r.parts.map } → 1 ≤ log_room old → r.parts.log.next < log_pages r.parts.geometry
 log_left old r is left =
@@ -192,7 +192,7 @@ page_from old mid new is takes =
       opened = λ none. takes.opened (ap (λ (l : LogBlocksValue). l.room) same ∙ none) ∙ ap (λ (g : Geometry). g.p) own;
     }
 
--- a log block can be had without a merge as before
+-- a log block still is available without a merge
 pub log_room_left : (old r : Ssc) → r.parts ≡ record old.parts { map = r.parts.map } → entries_of r ≡ entries_of old → HasLogBlock old.parts → HasLogBlock r.parts
 log_room_left old r is same room = subst (λ (p : Parts). HasLogBlock p) (sym is) (by room)
   where

@@ -1,4 +1,4 @@
--- A block is appended, its address is put there, and that is committed or waits.
+-- A block is appended, its address is put at its page, and this is committed or buffered.
 use Rattle.std.proofs.Common.{◌≡◌, ◌⊎◌, ℕ, ◌+◌, ◌-◌, ◌/◌, ◌<◌, ◌≤◌, ◌==◌, Bool, true, false, cond, List, [], ◌∷◌, ◌++◌, length, Option, Some, None, inl, inr, refl, sym, ◌∙◌, ap, subst, arith, length-append}
 use Rattle.std.specs.Cmp.{nat_cmp_total}
 use Rattle.std.specs.Option.{option_and_then}
@@ -38,7 +38,7 @@ use Rattle.ssc.proofs.ListLemmas.{list_some, stands_some}
 
 -- ---- lists that gave room, on the flash
 
--- what is left was there
+-- a block that is left was held before
 was_held : (g : Geometry) (list v : CacheList) → GivesRoom g list v → (a : ℕ) (h : Held) → get v a ≡ Some h → get list a ≡ Some h
 was_held g list v (inl same) a h is = ap (λ (s : CacheList). get s a) (sym same) ∙ is
 was_held g list v (inr gave) a h is = taken (gave.gone (a / g.p)) (get list a) h (sym (gave.stays a) ∙ is)
@@ -47,13 +47,13 @@ none_either_way : (b : Bool) → cond {A = Option Held} b None None ≡ None
 none_either_way true = refl
 none_either_way false = refl
 
--- what is absent stays so
+-- an absent address stays absent
 pub stays_absent : (g : Geometry) (list v : CacheList) → GivesRoom g list v → (a : ℕ) → get list a ≡ None → get v a ≡ None
 stays_absent g list v (inl same) a none = ap (λ (s : CacheList). get s a) same ∙ none
 stays_absent g list v (inr gave) a none = gave.stays a ∙ ap (λ o. cond (gave.gone (a / g.p)) None o) none ∙ none_either_way (gave.gone (a / g.p))
 
 module _ (g : Geometry) (page page' : Place → Page) (m m' : Entries) (list v : CacheList) (whole : AreWhole page m) (whole' : AreWhole page' m') (on : IsListOn page m list) (on' : IsListOn page' m' v) (gives : GivesRoom g list v) where
-  -- what is dirty was dirty before
+  -- a dirty entry was dirty before
   dirty_before : (a : ℕ) (e : Entry) → get m' a ≡ Some e → e.dirty ≡ true → (f : Entry) × (get m a ≡ Some f) × (f.dirty ≡ true)
   dirty_before a e is dirty =
       let h = whole_held page' e (whole'.whole a e is) in
@@ -85,7 +85,7 @@ module _ (g : Geometry) (page page' : Place → Page) (m m' : Entries) (list v :
           let both : None ≡ Some h.0 = sym none ∙ on' a ∙ ap (option_and_then (held_at page')) there ∙ h.1 in
           absurd (cc)
 
-  -- where the entries are the same, nothing gave way
+  -- if the entries are the same, nothing gave way
   pub same_left : m' ≡ m → v ≡ list
   same_left same = by gives
     where
@@ -99,7 +99,7 @@ module _ (g : Geometry) (page page' : Place → Page) (m m' : Entries) (list v :
 
 -- ---- after a block was appended
 
--- a cache that agrees with the flash has a list, and another without what is buffered
+-- a cache that agrees with the flash has a list, and another without the buffered changes
 lists_some : (parts : Parts) (contents : Contents) → PartsAgree parts contents → (list : CacheList) × (durable : CacheList) × Lists parts contents.flash.page list durable
 lists_some parts contents agree =
     let page = contents.flash.page in
@@ -112,7 +112,7 @@ module _ (old mid : Parts) (contents contents' : Contents) (agree : PartsAgree o
   abbrev GoesOnAll : Type 0
   GoesOnAll = (list durable : CacheList) → Lists old contents.flash.page list durable → GoesOn old.log mid contents'.flash.page list durable
 
-  -- there is room for the address as before
+  -- there still is room for the address
   pub room_after : GoesOnAll → (lba : ℕ) → HasRoomFor old.geometry old.map.entries lba → HasRoomFor mid.geometry mid.map.entries lba
   room_after goes lba room = let s = lists_some old contents agree in subst (λ (g : Geometry). HasRoomFor g mid.map.entries lba) (sym is) (by s.0 s.1 s.2 (goes s.0 s.1 s.2))
     where
@@ -120,7 +120,7 @@ module _ (old mid : Parts) (contents contents' : Contents) (agree : PartsAgree o
       by list durable lists (inl same) = room_stays old.geometry contents.flash.page contents'.flash.page old.map.entries mid.map.entries list list agree.sound.whole agree'.sound.whole lists.held same.1.held (inl refl) lba room
       by list durable lists (inr gone) = room_stays old.geometry contents.flash.page contents'.flash.page old.map.entries mid.map.entries list gone.1.0 agree.sound.whole agree'.sound.whole lists.held gone.1.2.held (subst (λ (g : Geometry). GivesRoom g list gone.1.0) is gone.1.1) lba room
 
-  -- what is left of the list
+  -- the list that is left
   left_after : (HasLogBlock old → mid.map.entries ≡ old.map.entries) → (list durable v : CacheList) → Lists old contents.flash.page list durable → GivesRoom mid.geometry list v → IsListOn contents'.flash.page mid.map.entries v → LeftOf old list v
   left_after inside list durable v lists gives on =
       let given = subst (λ (g : Geometry). GivesRoom g list v) is gives in
@@ -129,7 +129,7 @@ module _ (old mid : Parts) (contents contents' : Contents) (agree : PartsAgree o
         inside = λ room. same_left old.geometry contents.flash.page contents'.flash.page old.map.entries mid.map.entries list v agree.sound.whole agree'.sound.whole lists.held on given (inside room);
       }
 
-  -- and then put at an address
+  -- the list with a block put at an address after that
   module _ (new : Parts) (lba : ℕ) (at : Place) (block : Held) (inside : HasLogBlock old → mid.map.entries ≡ old.map.entries) (log : new.log ≡ pushed (SetPage lba at block.dirty) mid.log)
       (put : (list durable : CacheList) → Lists mid contents'.flash.page list durable → Lists new contents'.flash.page (insert list lba block) durable) where
     pub puts_block : GoesOnAll → (list durable : CacheList) → Lists old contents.flash.page list durable → PutsBlock old lba block new contents'.flash.page durable list
@@ -139,11 +139,11 @@ module _ (old mid : Parts) (contents contents' : Contents) (agree : PartsAgree o
         by (inl same) = inl (inl (ap (λ (l : LogValue). l.buffered) log ∙ ap (λ (l : LogValue). l.buffered ++ SetPage lba at block.dirty ∷ []) same.0, put list durable same.1))
         by (inr gone) = inr (gone.1.0, left_after inside list durable gone.1.0 lists gone.1.1 gone.1.2.held, inr (inl (ap (λ (l : LogValue). l.buffered) log ∙ ap (λ (l : List Record). l ++ SetPage lba at block.dirty ∷ []) gone.0, put gone.1.0 gone.1.0 gone.1.2)))
 
--- where a log block can be had without a merge
+-- if a log block is available without a merge
 pub inside_entries : (old mid : Parts) → (HasLogBlock old → mid.map ≡ old.map) → HasLogBlock old → mid.map.entries ≡ old.map.entries
 inside_entries old mid stays room = ap (λ (m : MapValue). m.entries) (stays room)
 
--- where the open log block had a page left
+-- if the open log block had a page left
 
 pub inside_pushed : (old mid new : Parts) (lba : ℕ) (at : Place) (dirty : Bool) → mid ≡ record old { log_blocks = record old.log_blocks { room = old.log_blocks.room - 1 } } → new.log ≡ pushed (SetPage lba at dirty) mid.log → IsPushed old lba dirty new
 inside_pushed old mid new lba at dirty is log = (at, log ∙ ap (λ (p : Parts). pushed (SetPage lba at dirty) p.log) is)
@@ -163,18 +163,18 @@ pub push_some : {A : Type 0} (xs : List A) (x : A) → xs ++ x ∷ [] ≡ [] →
 push_some [] x is = cc
 push_some (y ∷ ys) x is = cc
 
--- something is buffered then
+-- something is buffered after that
 pub pushed_some : (log log' : LogValue) (change : Record) → log' ≡ pushed change log → log'.buffered ≡ [] → ⊥
 pushed_some log log' change is none = push_some log.buffered change (ap (λ (l : LogValue). l.buffered) (sym is) ∙ none)
 
--- the log has a page left as before
+-- the log still has a page left
 pub left_pushed : (old mid : Parts) (change : Record) → mid.log ≡ pushed change old.log → mid.geometry ≡ old.geometry → old.log.next < log_pages old.geometry → mid.log.next < log_pages mid.geometry
 left_pushed old mid change log is left =
     let next : mid.log.next ≡ old.log.next = ap (λ (l : LogValue). l.next) log in
     let pages : log_pages mid.geometry ≡ log_pages old.geometry = ap (λ (g : Geometry). log_pages g) is in
     omega arith
 
--- one program for the block, and one for what was buffered
+-- one program for the block, and one for the buffered changes
 pub counted_twice : (old mid : Parts) (lba : ℕ) (dirty : Bool) → mid.geometry ≡ old.geometry → (a b c : Counts) → IsPushed old lba dirty mid × (b ≡ program_counted a) → (mid.log.buffered ≡ [] → ⊥)
     → old.log.next < log_pages old.geometry → ((mid.log.buffered ≡ [] → ⊥) → mid.log.next < log_pages mid.geometry → c ≡ program_counted b) → c ≡ program_counted (program_counted a)
 counted_twice old mid lba dirty is a b c pushed waits left one =
@@ -182,7 +182,7 @@ counted_twice old mid lba dirty is a b c pushed waits left one =
     let low = subst (λ n. n < log_pages mid.geometry) next (subst (λ (g : Geometry). old.log.next < log_pages g) (sym is) left) in
     one waits low ∙ ap program_counted pushed.1
 
--- fewer changes wait than a page takes
+-- fewer changes are buffered than a page takes
 pub still_pushed : (old mid new : Parts) (lba : ℕ) (dirty : Bool) (a b c : State) {P : Type 0} → length old.log.buffered + 2 ≤ page_records old.log.geometry → IsPushed old lba dirty mid × (b.counts ≡ program_counted a.counts)
     → (length mid.log.buffered < page_records mid.log.geometry → P × (new ≡ mid) × (c ≡ b)) → IsPushed old lba dirty new × (c.counts ≡ program_counted a.counts)
 still_pushed old mid new lba dirty a b c few pushed same =
@@ -192,7 +192,7 @@ still_pushed old mid new lba dirty a b c few pushed same =
     let still = same (omega arith) in
     ((at, ap (λ (p : Parts). p.log) still.1 ∙ pushed.0.1), ap (λ (s : State). s.counts) still.2 ∙ pushed.1)
 
--- ---- what the flash stands for, step by step
+-- ---- the lists for which the flash stands, step by step
 
 module _ (g : Geometry) (page : Place → Page) (list durable : CacheList) (step : CacheList → CacheList) where
   -- before the step
@@ -204,7 +204,7 @@ module _ (g : Geometry) (page : Place → Page) (list durable : CacheList) (step
   step_durable (inl s) = inl s
   step_durable (inr s) = inr (list, inl refl, inr s)
 
--- what a later step may leave of a block that was put, whatever it answers
+-- the flash that a later step may leave of a block that was put, whatever it answers
 module _ (old mid : Parts) (page page' : Place → Page) (lba : ℕ) (block : Held) (is : mid.geometry ≡ old.geometry) (list durable : CacheList)
     (later : (l d : CacheList) → Lists mid page l d → FlashStandsForEither mid.geometry page' d l) where
   abbrev step : CacheList → CacheList
@@ -228,7 +228,7 @@ module _ (old mid : Parts) (page page' : Place → Page) (lba : ℕ) (block : He
   step_then (at, inl (inr (inr k))) = inr (list, inl refl, inr (twice (step list) (either (step list) (step list) k.1)))
   step_then (at, inr (v, left, after)) = on_left [] (SetPage lba at block.dirty) v left.gives after
 
-  -- where a log block could be had without a merge, nothing gave way before
+  -- if a log block was available without a merge, nothing gave way before
   undone_or_after : FlashStandsForEither old.geometry page' durable (step list) → FlashStandsForOne old.geometry page' durable list (step list)
   undone_or_after (inl s) = AsUndone s
   undone_or_after (inr s) = AsAfter s
@@ -253,7 +253,7 @@ pub kept_before : (g : Geometry) (page : Place → Page) (durable list after : C
 kept_before g page durable list after (inl s) = AsUndone s
 kept_before g page durable list after (inr s) = AsBefore s
 
--- ---- what the cache holds, step by step
+-- ---- the list that the cache holds, step by step
 
 same_of : (old : Parts) (list : CacheList) → LeftOf old list list
 same_of old list = record { gives = inl refl; inside = λ room. refl }
@@ -264,7 +264,7 @@ module _ (old mid new : Parts) (page page' : Place → Page) (lba : ℕ) (block 
   committed_after buffered own d before l done (inr (inl k)) = done l before k.1
   committed_after buffered own d before l done (inr (inr k)) = done l l k.1
 
-  -- all is committed
+  -- all changes are committed
   pub put_committed : ((l d : CacheList) → Lists mid page l d → Lists new page' l l) → PutsBlock old lba block mid page durable list → (v : CacheList) × LeftOf old list v × Lists new page' (insert v lba block) (insert v lba block)
   put_committed done (at, inl after) = (list, same_of old list, committed_after old.log.buffered (SetPage lba at block.dirty) durable list (insert list lba block) done after)
   put_committed done (at, inr (v, left, after)) = (v, left, committed_after [] (SetPage lba at block.dirty) v v (insert v lba block) done after)
@@ -289,11 +289,11 @@ module _ (old mid new : Parts) (page page' : Place → Page) (lba : ℕ) (block 
       by (inl same) = inr (inr (ap (λ (o : LogValue). o.buffered) same.0 ∙ k.0, same.1))
       by (inr none) = inr (inr none)
 
-  -- it waits, or all is committed
+  -- the change is buffered, or all are committed
   pub put_waits : ((l d : CacheList) → Lists mid page l d → Goes l d) → PutsBlock old lba block mid page durable list → PutsBlock old lba block new page' durable list
   put_waits done (at, inl after) = (at, inl (waits_after old.log.buffered (SetPage lba at block.dirty) durable list (insert list lba block) done after))
   put_waits done (at, inr (v, left, after)) = (at, inr (v, left, waits_after [] (SetPage lba at block.dirty) v v (insert v lba block) done after))
 
--- what was committed was put
+-- a block that was committed was put
 pub committed_puts : (old new : Parts) (page : Place → Page) (lba : ℕ) (block : Held) (list durable : CacheList) → new.log.buffered ≡ [] → (v : CacheList) × LeftOf old list v × Lists new page (insert v lba block) (insert v lba block) → PutsBlock old lba block new page durable list
 committed_puts old new page lba block list durable none x = (record { block = 0; page = 0 }, inr (x.0, x.1, inr (inr (none, x.2))))

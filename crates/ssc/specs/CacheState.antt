@@ -1,4 +1,4 @@
--- A cache and its flash: the list that they hold, and what of it is only buffered.
+-- A cache and its flash: the list that they hold, and its changes that are only buffered.
 use Rattle.std.specs.Prelude.{◌≡◌, ◌⊎◌, ◌≤◌, ◌-◌, ℕ, Bool, true, false, not, max, IsTrue, List, [], ◌∷◌}
 use Rattle.std.specs.List.{list_all}
 use Rattle.ft_base.specs.declared.geometry.Geometry.{Geometry}
@@ -28,7 +28,7 @@ may_wait (Clean lba) = true
 may_wait (SetGroup group block present dirty) = false
 may_wait (RemoveGroup group) = false
 
--- what such a record says of the list
+-- the meaning of such a record for the list
 abbrev pub waiting_as : Record → Buffered
 waiting_as (SetPage lba place dirty) = Inserted lba
 waiting_as (Remove lba) = Cleaned lba
@@ -40,7 +40,7 @@ abbrev pub waiting : List Record → List Buffered
 waiting [] = []
 waiting (change ∷ changes) = waiting_as change ∷ waiting changes
 
--- what is buffered, and not yet on the flash
+-- the changes that are buffered, and not yet on the flash
 abbrev pub pending : Ssc → List Buffered
 pending c = waiting c.parts.log.buffered
 
@@ -54,13 +54,13 @@ log_room c = log_pages (geometry_of c) - c.parts.log.next
 
 -- ---- the cache over its flash
 
--- the memory of a write is there: for one page, and for the groups of one log block
+-- the map has the memory of a write: for one page, and for the groups of one log block
 pub record HasMemory (parts : Parts) : Type 0 where
   pub pages : 1 ≤ parts.map.spare_pages
   pub groups : parts.geometry.p ≤ parts.map.spare_groups
 
--- between two commands: the cache has left the flash so, and holds this list, in few buckets; without what is buffered, the flash
--- stands for it
+-- between two commands: the cache has left the flash like this, and holds this list, in few buckets; without the
+-- buffered changes, the flash stands for it
 pub record Holds (c : Ssc) (contents : Contents) (s : CacheList) : Type 0 where
   pub agree : PartsAgree c.parts contents
   pub lists : Lists c.parts contents.flash.page s (undo (pending c) s)
@@ -69,20 +69,22 @@ pub record Holds (c : Ssc) (contents : Contents) (s : CacheList) : Type 0 where
   pub memory : c.ready ≡ true → HasMemory c.parts
   pub few : HasFewBuckets c.parts.map
 
--- it holds some list, and was not given up
+-- the cache holds some list, and was not given up
 pub record IsUp (c : Ssc) (contents : Contents) : Type 0 where
   pub list : CacheList
   pub holds : Holds c contents list
   pub up : c.stopped ≡ false
 
--- the cache is as before, but for the order of its map's records and the map's buckets, which may have doubled as the room of a write asks
+-- the cache is unchanged, except for the order of its map's records and the map's buckets, which may have doubled as
+-- the room of a write needs
 pub record IsAsBefore (old new : Ssc) : Type 0 where
   pub parts : new ≡ record old { parts = record old.parts { map = new.parts.map } }
   pub map : new.parts.map ≡ record old.parts.map { records = new.parts.map.records; buckets = new.parts.map.buckets }
   pub buckets : (new.parts.map.buckets ≡ old.parts.map.buckets)
       ⊎ GrewForPages old.parts.map new.parts.map (max old.parts.map.spare_pages 1)
 
--- the room of a write was taken, and no more: for one page, and for the groups of one log block; the buckets doubled as that room asks
+-- exactly the room of a write was taken: for one page, and for the groups of one log block; the buckets doubled as that
+-- room needs
 pub record TookRoom (old new : Parts) : Type 0 where
   pub pages : new.map.spare_pages ≡ max old.map.spare_pages 1
   pub groups : new.map.spare_groups ≡ max old.map.spare_groups old.geometry.p

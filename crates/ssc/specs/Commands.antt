@@ -1,4 +1,4 @@
--- What the commands answer, and what they leave.
+-- The answers of the commands, and the lists that they leave.
 use Rattle.std.specs.Prelude.{◌≡◌, ◌⊎◌, ◌/◌, ℕ, Bool, true, false, List, [], ◌∷◌, ◌++◌, length, Option, None, Some, Result, Ok, Err, ⊤}
 use Rattle.std.specs.FinMap.{get}
 use Rattle.ft_base.specs.declared.block.Block.{Block}
@@ -14,26 +14,27 @@ use Rattle.ssc.specs.declared.error.SscError.{SscError}
 use Rattle.ssc.specs.declared.error.SscError.TheVariants.{Full, FlashFault, PowerLost, OutOfMemory}
 use Rattle.ssc.specs.CacheState.{Holds, geometry_of, pending}
 
--- what a crash may leave of a command: the list of before without what was buffered, that list whole, or the list after the step
+-- the flash that a crash may leave of a command. It stands for the list before without the buffered changes, for that
+-- whole list, or for the list after the step
 pub data FlashStandsForOne (g : Geometry) (page : Place → Page) (undone before after : CacheList) : Type 0 where
   AsUndone : FlashStandsFor g page undone → FlashStandsForOne g page undone before after
   AsBefore : FlashStandsFor g page before → FlashStandsForOne g page undone before after
   AsAfter : FlashStandsFor g page after → FlashStandsForOne g page undone before after
 
--- whatever is answered, and wherever power went off, every image stands for one of these
+-- whatever the command answers, and whenever power goes off, every image stands for one of these
 abbrev pub ImagesOf : Ssc → Contents → CacheList → CacheList → Type 0
 ImagesOf c contents before after = (x : Image) → Now contents x
     → FlashStandsForOne (geometry_of c) x.page (undo (pending c) before) before after
 
--- what a crash may leave of a write at an address: the list of before without what was buffered; or the list from which clean groups
--- may have given way, before the step or after it
+-- the flash that a crash may leave of a write at an address. It stands for the list before without the buffered
+-- changes. Or it stands for the list from which clean groups may have given way, before the step or after it
 pub data FlashStandsForWrite (g : Geometry) (page : Place → Page) (undone before : CacheList) (a : ℕ)
     (step : CacheList → CacheList) : Type 0 where
   AsUndone : FlashStandsFor g page undone → FlashStandsForWrite g page undone before a step
   AsLeft : (v : CacheList) → Vanish g before a v → FlashStandsFor g page v → FlashStandsForWrite g page undone before a step
   AsWritten : (v : CacheList) → Vanish g before a v → FlashStandsFor g page (step v) → FlashStandsForWrite g page undone before a step
 
--- whatever a write answers, and wherever power went off, every image stands for one of these
+-- whatever a write answers, and whenever power goes off, every image stands for one of these
 abbrev pub ImagesOfWrite : Ssc → Contents → CacheList → ℕ → (CacheList → CacheList) → Type 0
 ImagesOfWrite c contents before a step = (x : Image) → Now contents x
     → FlashStandsForWrite (geometry_of c) x.page (undo (pending c) before) before a step
@@ -44,7 +45,8 @@ pub record HoldsWritten (c : Ssc) (contents : Contents) (before : CacheList) (a 
   pub vanish : Vanish (geometry_of c) before a left
   pub holds : Holds c contents (step left)
 
--- Full is answered exactly where the dirty groups, with that of the address, are more than C; and says how many they are
+-- the answer is `Full` if the dirty groups, counting the address's, are more than C, and only then; it says how many
+-- they are
 abbrev pub FullExactly : Geometry → CacheList → ℕ → {T : Type 0} → Result T SscError → Type 0
 FullExactly g s a (Err (Full n limit)) = IsFull g s a × (n ≡ length (with_group (a / g.p) (dirty_groups g s))) × (limit ≡ g.c)
 FullExactly g s a (Err FlashFault) = IsFull g s a → ⊥
@@ -52,7 +54,7 @@ FullExactly g s a (Err PowerLost) = IsFull g s a → ⊥
 FullExactly g s a (Err OutOfMemory) = IsFull g s a → ⊥
 FullExactly g s a (Ok done) = IsFull g s a → ⊥
 
--- what is buffered after a command that may be buffered itself: as before, or nothing, and then its own; or nothing
+-- the buffered changes after a command that may be buffered itself: the old ones, or none, and then its own; or none
 abbrev pub PendsWith : List Buffered → List Buffered → Buffered → Type 0
 PendsWith old new own = (new ≡ old ++ own ∷ []) ⊎ (new ≡ own ∷ []) ⊎ (new ≡ [])
 
@@ -64,12 +66,12 @@ IsHeldIn s a = (h : Held) × (get s a ≡ Some h)
 abbrev pub IsDirtyIn : CacheList → ℕ → Type 0
 IsDirtyIn s a = (h : Held) × (get s a ≡ Some h) × (h.dirty ≡ true)
 
--- a read is true with the block exactly where the address is held
+-- a read answers true with the block exactly when the address is held
 abbrev pub ReadOf : Option Held → Bool → Block → Type 0
 ReadOf None found block = found ≡ false
 ReadOf (Some h) found block = (found ≡ true) × (block ≡ h.block)
 
--- a read found the block; else that holds
+-- this holds, unless a read found the block
 abbrev pub UnlessFound : Result Bool SscError → Type 0 → Type 0
 UnlessFound (Ok true) holds = ⊤
 UnlessFound (Ok false) holds = holds

@@ -1,4 +1,4 @@
--- Why a command was refused.
+-- Why a command failed.
 use Rattle.std.specs.Prelude.{Bool, true, false, Result, Ok, Err}
 use Rattle.ft_media.specs.declared.media.MediaError.{MediaError}
 use Rattle.ft_media.specs.declared.media.MediaError.TheVariants as media
@@ -17,7 +17,7 @@ ssc_lost (Err PowerLost) = true
 ssc_lost (Err e) = false
 ssc_lost (Ok value) = false
 
--- either, so that the cache is given up
+-- the flash failed or power was lost, so the cache is given up
 abbrev pub stops : {T : Type 0} → Result T SscError → Bool
 stops (Err FlashFault) = true
 stops (Err PowerLost) = true

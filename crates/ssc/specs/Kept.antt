@@ -1,4 +1,4 @@
--- What the commands have in common, and what the writes and the opening leave.
+-- The facts that the commands have in common, and the state after writes and after the opening.
 use Rattle.std.specs.Prelude.{◌≡◌, ◌≢◌, ◌⊎◌, ◌≤◌, ◌+◌, ◌++◌, ◌∷◌, [], ℕ, length, max, false, None, Result, OnOk, IsErrOf}
 use Rattle.std.specs.FinMap.{get}
 use Rattle.ft_base.specs.declared.geometry.Geometry.{Geometry}
@@ -26,19 +26,19 @@ use Rattle.ssc.specs.Steps.{TakesLogPage}
 
 -- ---- every command that drives the flash
 
--- the geometry stays, and no memory is taken: the map has no more room than before, and as many buckets
+-- the geometry stays, and no memory is taken: the map has no more room, and the same number of buckets
 pub record TakesNoMemory (old new : Parts) : Type 0 where
   pub geometry : new.geometry ≡ old.geometry
   pub room : HasNoMoreRoom old.map new.map
   pub buckets : KeepsBuckets old.map new.map
 
--- the map has as many buckets as before, or they doubled as the room of a write asks
+-- the number of the map's buckets is unchanged, or they doubled as the room of a write needs
 pub record GrewForWrite (old new : Parts) : Type 0 where
   pub pages : (new.map.buckets ≡ old.map.buckets) ⊎ GrewForPages old.map new.map (max old.map.spare_pages 1)
   pub groups : (new.map.group_buckets ≡ old.map.group_buckets) ⊎ GrewForGroups old.map new.map (max old.map.spare_groups old.geometry.p)
 
--- a write: the geometry stays, the map grows as its room asks, the cache is given up exactly where the flash failed or power was lost,
--- and the flash alone is driven; Ok, one page of the open log block is used
+-- a write. The geometry stays, and the map grows as its room needs. The cache is given up exactly when the flash failed
+-- or power was lost, and only the flash is driven. After `Ok`, one page of the open log block is used
 pub record RunsCommand {T : Type 0} (old new : Ssc) (before after : State) (result : Result T SscError) : Type 0 where
   pub geometry : geometry_of new ≡ geometry_of old
   pub buckets : GrewForWrite old.parts new.parts
@@ -46,8 +46,8 @@ pub record RunsCommand {T : Type 0} (old new : Ssc) (before after : State) (resu
   pub drives : DrivesFlash before after (ssc_failed result) (ssc_lost result)
   pub log_page : OnOk result (TakesLogPage old.parts new.parts)
 
--- the same of a command that takes no memory: it never answers that it's full or that memory is wanted, the buckets of the map and the
--- log blocks stay, and what a write has ready stays so
+-- the same for a command that takes no memory. It never answers `Full` or `OutOfMemory`. The buckets of the map and the
+-- log blocks stay, and the memory that a write has ready stays ready
 pub record RunsInPlace {T : Type 0} (old new : Ssc) (before after : State) (result : Result T SscError) : Type 0 where
   pub geometry : geometry_of new ≡ geometry_of old
   pub full : (n l : ℕ) → IsErrOf result (Full n l) → ⊥
@@ -60,26 +60,29 @@ pub record RunsInPlace {T : Type 0} (old new : Ssc) (before after : State) (resu
 
 -- ---- the writes
 
--- refused for want of room or of memory, a write changes nothing but the order of the map's records and its buckets, which may have doubled
+-- on `Full` or `OutOfMemory` a write has changed only the order of the map's records and its buckets, which may have
+-- doubled
 pub record RefusesWrite {T : Type 0} (old new : Ssc) (before after : State) (result : Result T SscError) : Type 0 where
   pub full_keeps : (n l : ℕ) → IsErrOf result (Full n l) → (new ≡ old) × (after ≡ before)
   pub memory : IsErrOf result OutOfMemory → (old.ready ≡ false) × IsAsBefore old new × (after ≡ before)
   pub memory_holds : IsErrOf result OutOfMemory → (contents : Contents) (s : CacheList) → Holds old contents s → Holds new contents s
 
--- nothing gives way where the open log block has a page left; nor where a log block can be had without a merge, whatever is answered
+-- nothing gives way if the open log block has a page left. Nothing gives way either if a log block is available without
+-- a merge, whatever the answer is
 pub record KeepsInRoom {T : Type 0} (old new : Ssc) (before after : State) (step : CacheList → CacheList)
     (result : Result T SscError) : Type 0 where
   pub inside : OnOk result (1 ≤ open_room old → (s : CacheList) → Holds old before.contents s → Holds new after.contents (step s))
   pub kept : OnOk result (HasLogBlock old.parts → (s : CacheList) → Holds old before.contents s → Holds new after.contents (step s))
   pub kept_images : HasLogBlock old.parts → (s : CacheList) → Holds old before.contents s → ImagesOf old after.contents s (step s)
 
--- after Ok a dirty write has spent two device writes at least; it programmed just two pages where the open log block and the log had room
+-- after `Ok` a dirty write has spent at least two device writes; it programmed exactly two pages if the open log block
+-- and the log had room
 pub record CostsDirty {T : Type 0} (old : Ssc) (before after : State) (result : Result T SscError) : Type 0 where
   pub two_programs : OnOk result (1 ≤ open_room old → 1 ≤ log_room old → after.counts ≡ program_counted (program_counted before.counts))
   pub programs : OnOk result (ProgramsPages 2 before after)
 
--- after Ok a clean write has spent a device write at least; it programmed one page where the address was absent and the open log block
--- and the buffer had room
+-- after `Ok` a clean write has spent at least one device write. It programmed one page if the address was absent, and
+-- the open log block and the buffer had room
 pub record CostsClean {T : Type 0} (old new : Ssc) (lba : ℕ) (before after : State) (result : Result T SscError) : Type 0 where
   pub one_program : OnOk result ((s : CacheList) → Holds old before.contents s → get s lba ≡ None → 1 ≤ open_room old
       → length (pending old) + 2 ≤ page_records (geometry_of old)
@@ -88,13 +91,14 @@ pub record CostsClean {T : Type 0} (old new : Ssc) (lba : ℕ) (before after : S
 
 -- ---- commits and checkpoints
 
--- after Ok a checkpoint was made in the other region and of the next era: it erased that region and its log, and programmed its pages
+-- after `Ok` a checkpoint was made in the other region, with the next era: it erased that region and its log, and
+-- programmed its pages
 pub record CostsCheckpoint {T : Type 0} (old new : Ssc) (before after : State) (result : Result T SscError) : Type 0 where
   pub log : OnOk result (new.parts.log ≡ log_checkpointed old.parts.log)
   pub adds : OnOk result (AddsCheckpoint old.parts.log old.parts.map.records before after)
   pub programs : OnOk result (ProgramsPages 1 before after)
 
--- after Ok something that was buffered is on one log page, where the log had a page left, else in such a checkpoint
+-- after `Ok` all changes that were buffered are on one log page if the log had a page left, else in such a checkpoint
 pub record CostsCommit {T : Type 0} (old new : Ssc) (before after : State) (result : Result T SscError) : Type 0 where
   pub log : OnOk result (new.parts.log ≡ log_committed old.parts.log)
   pub one_program : OnOk result (pending old ≢ [] → 1 ≤ log_room old → after.counts ≡ program_counted before.counts)
@@ -103,8 +107,8 @@ pub record CostsCommit {T : Type 0} (old new : Ssc) (before after : State) (resu
 
 -- ---- the opening
 
--- a cache that was just opened: nothing waits, its log is empty, its log blocks are in the order of their numbers, with none open, and
--- it was not given up
+-- a cache that was just opened. Nothing is buffered, and its log is empty. Its log blocks are in the order of their
+-- numbers, with none open, and it was not given up
 pub record IsJustOpened (g : Geometry) (c : Ssc) : Type 0 where
   pub nothing_waits : pending c ≡ []
   pub log : c.parts.log.next ≡ 0

@@ -8,15 +8,15 @@ use Rattle.cache_model.specs.CacheList.{CacheList}
 use Rattle.mapping.specs.Bits.{set_of}
 use Rattle.mapping.specs.Numbers.{number_of}
 
--- the entry is dirty, and its address is at least the first and below the end
+-- the entry is dirty, and its address is at least `from` and below `end`
 abbrev pub is_dirty_from : ℕ → ℕ → ℕ × Entry → Bool
 is_dirty_from from end x = x.1.dirty && nat_le from x.0 && nat_lt x.0 end
 
--- the addresses of the dirty entries from the first on and below the end, in the order of the entries
+-- the addresses of the dirty entries, at least `from` and below `end`, in the order of the entries
 abbrev pub listed : ℕ → ℕ → List (ℕ × Entry) → List ℕ
 listed from end es = map (λ x. x.0) (filter (is_dirty_from from end) es)
 
--- the address of the entry of this number, where it is listed; none where no entry of the number is
+-- the address of the entry with this number, if it is listed; `None` if no entry with the number is listed
 abbrev pub IsListedAt : Geometry → Entries → ℕ → ℕ → ℕ → Option ℕ → Type 0
 IsListedAt g m from end number None = (a : ℕ) (e : Entry) → get m a ≡ Some e → number_of g e.place ≡ number
     → is_dirty_from from end (a, e) ≡ false
@@ -28,7 +28,7 @@ abbrev pub shown : Option ℕ → List ℕ
 shown None = []
 shown (Some lba) = lba ∷ []
 
--- behind what was there comes the address of the entry of this number, where it is listed
+-- the old items come first, and then the address of the entry with this number, if it is listed
 abbrev pub AddsNumber : Geometry → Entries → ℕ → ℕ → ℕ → List ℕ → List ℕ → Type 0
 AddsNumber g m from end number old new = (at : Option ℕ) × IsListedAt g m from end number at × (new ≡ old ++ shown at)
 
@@ -37,7 +37,7 @@ abbrev pub times_listed : ℕ → ℕ → ℕ → Option Entry → ℕ
 times_listed from end a None = 0
 times_listed from end a (Some e) = if is_dirty_from from end (a, e) then 1 else 0
 
--- behind what was there comes each listed address once, and no other
+-- the old items come first, and then each listed address once, and no other
 pub record AddsListed (from end : ℕ) (m : Entries) (old new : List ℕ) : Type 0 where
   pub found : List ℕ
   pub items : new ≡ old ++ found

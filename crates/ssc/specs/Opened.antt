@@ -1,4 +1,4 @@
--- What an opening writes, and what it costs.
+-- The pages that an opening writes, and its cost.
 use Rattle.std.specs.Prelude.{◌≡◌, ℕ, false, [], Result, Ok, IfOk, OnOk, OnErr}
 use Rattle.ft_base.specs.declared.block.Place.{Place}
 use Rattle.ft_base.specs.declared.block.Page.{Page}
@@ -23,7 +23,7 @@ use Rattle.ssc.specs.Kept.{IsJustOpened}
 use Rattle.ssc.specs.Own.{HoldsOwn, LoadsOwn}
 use Rattle.ssc.specs.Steps.{IsLoadedAs, log_found}
 
--- the cache is over what these pages are loaded as, and no command was called
+-- the cache has the entries that these pages load, and no command was called
 pub record IsLoadedFrom (g : Geometry) (page : Place → Page) (c : LoadedCache) : Type 0 where
   pub loaded : Loaded
   pub is_loaded : IsLoaded g page loaded
@@ -31,7 +31,7 @@ pub record IsLoadedFrom (g : Geometry) (page : Place → Page) (c : LoadedCache)
   pub unready : c.cache.ready ≡ false
   pub up : c.cache.stopped ≡ false
 
--- a cache that was opened over these pages: it holds what they stood for, and commands may be called
+-- a cache that was opened over these pages: it holds the list for which they stood, and commands may be called
 pub record IsOpenedOver (g : Geometry) (page : Place → Page) (contents : Contents) (c : Ssc) : Type 0 where
   pub geometry : geometry_of c ≡ g
   pub holds : (s : CacheList) → FlashStandsFor g page s → Holds c contents s
@@ -40,13 +40,13 @@ pub record IsOpenedOver (g : Geometry) (page : Place → Page) (contents : Conte
   pub is_up : IsUp c contents
   pub own : LoadsOwn g page → HoldsOwn c contents
 
--- what these pages stood for, the flash stands for still, and it is loaded as they were
+-- the flash still stands for the list for which these pages stood, and it loads the same entries
 pub record StandsStill (g : Geometry) (page : Place → Page) (contents : Contents) : Type 0 where
   pub images : (s : CacheList) → FlashStandsFor g page s → (x : Image) → Now contents x → FlashStandsFor g x.page s
   pub same : load g contents.flash.page ≡ load g page
 
--- one checkpoint was made of what was loaded: in the region that hasn't the one that was found, and of the era after it; no page of the
--- pool changed
+-- one checkpoint of the loaded entries was made. It is in the region that lacks the checkpoint that was found, and of
+-- the era after it. No page of the pool changed
 pub record MadeCheckpoint (g : Geometry) (c : Ssc) (before after : State) : Type 0 where
   pub region : ℕ
   pub newest : Complete
@@ -55,7 +55,8 @@ pub record MadeCheckpoint (g : Geometry) (c : Ssc) (before after : State) : Type
   pub adds : AddsCheckpoint (log_found g region newest.stamp.era) c.parts.map.records before after
   pub pool : PoolStays g before.contents.flash.page after.contents.flash.page
 
--- Ok, an opening has made that one checkpoint; refused, it has only read, unless the flash failed or power was lost
+-- after `Ok` an opening has made that one checkpoint; after `Err` it has only read, unless the flash failed or power
+-- was lost
 pub record CostsOpening (g : Geometry) (before after : State) (result : Result Ssc OpenError) : Type 0 where
   pub made : IfOk result (λ c. MadeCheckpoint g c before after)
   pub programs : OnOk result (ProgramsPages 1 before after)

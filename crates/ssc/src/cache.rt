@@ -18,22 +18,22 @@ use std::alloc::AllocError;
 #[derive(Drop)]
 pub struct Ssc {
     pub(crate) parts: Parts,
-    // The memory of the next write is there.
+    // The memory of the next write is ready.
     pub(crate) ready: bool,
-    // A command that writes failed or was cut: the flash is to be opened again.
+    // A command that writes failed or was cut: the flash must be opened again.
     pub(crate) stopped: bool,
 }
 
 impl Ssc {
-    /// Whether a command that writes failed or was cut, so that the flash is to be opened again. A read or a
-    /// scrub that is refused stops nothing.
+    /// Whether a command that writes failed or was cut, so that the flash must be opened again. A read or a scrub that
+    /// fails doesn't set this.
     pub fn is_stopped(&self) -> bool
         ensures { result ≡ self.now.stopped }
     {
         self.stopped
     }
 
-    /// How many groups have a dirty block: C at most.
+    /// How many groups have a dirty block: at most C.
     pub fn dirty_groups(&self) -> u32
         ensures count { (contents : Contents) (s : CacheList) → Holds self.now contents s
             → result ≡ length (dirty_groups (geometry_of self.now) s) }
@@ -60,9 +60,9 @@ impl Ssc {
         self.parts.map.held()
     }
 
-    /// The buckets of the map of page-mapped addresses: none, or a power of two from 32 on, of which at least a
-    /// quarter is free; 32 at most, or so many that half of them are too few for the pages of the log blocks and the
-    /// records of one page.
+    /// The buckets of the map of page-mapped addresses: none, or a power of two that is at least 32. At least a quarter
+    /// of them is free. There are at most 32, or a number half of which is too few for the pages of the log blocks and
+    /// the records of one page.
     pub fn buckets(&self) -> u64
         ensures count { result ≡ self.now.parts.map.buckets }
         ensures bound { AreBucketsFor (entries_of self.now) result }
@@ -93,8 +93,8 @@ impl Ssc {
         self.parts.log_blocks.room()
     }
 
-    /// Takes the memory of the next write: for its page, and for the groups that it may merge. Refused,
-    /// all is as before, but for the order of the map's records and its buckets, which may have doubled as that asks.
+    /// Takes the memory of the next write: for its page, and for the groups that it may merge. On `Err` nothing has
+    /// changed, except the order of the map's records and its buckets, which may have doubled as that memory needs.
     pub fn reserve(&mut self) -> Result<(), AllocError>
         ensures holds { (contents : Contents) (s : CacheList) → Holds self.old contents s → Holds self.new contents s }
         ensures same { geometry_of self.new ≡ geometry_of self.old }

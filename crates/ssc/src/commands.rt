@@ -24,10 +24,10 @@ use ft_media::{Media, MediaError, PageRead};
 use std::alloc::AllocError;
 
 impl Ssc {
-    /// Holds the block at an address, dirty, on the flash when it answers Ok.
+    /// Holds the block at an address, dirty. It is on the flash when the call answers `Ok`.
     ///
-    /// Full is decided first, then want of memory. Full changes nothing, and want of memory nothing but the
-    /// order of the map's records and its buckets, which may have doubled as `reserve` says.
+    /// `Full` is decided first, and then `OutOfMemory`. `Full` changes nothing. `OutOfMemory` changes only the order of
+    /// the map's records and its buckets, which may have doubled as `reserve` says.
     pub fn write_dirty<M: Media>(
         &mut self,
         media: &mut M,
@@ -42,7 +42,7 @@ impl Ssc {
         ensures done { OnOk result ((s : CacheList) → Holds self.old (M.state media.old).contents s
             → HoldsWritten self.new (M.state media.new).contents s lba (written_dirty lba block.now)) }
         ensures nothing_waits { OnOk result (pending self.new ≡ []) }
-        // Whatever is answered, and wherever power went off.
+        // Whatever the call answers, and whenever power goes off.
         ensures images { (s : CacheList) → Holds self.old (M.state media.old).contents s
             → ImagesOfWrite self.old (M.state media.new).contents s lba (written_dirty lba block.now) }
         // Blocks that were each written for their own address stay so.
@@ -66,7 +66,7 @@ impl Ssc {
         }
     }
 
-    /// Holds the block at an address, clean. At an address that was absent a crash may drop it.
+    /// Holds the block at an address, clean. If the address was absent, a crash may drop the block.
     pub fn write_clean<M: Media>(
         &mut self,
         media: &mut M,
@@ -84,7 +84,7 @@ impl Ssc {
             → pending self.new ≡ []) }
         ensures at_absent { OnOk result ((s : CacheList) → Holds self.old (M.state media.old).contents s → get s lba ≡ None
             → PendsWith (pending self.old) (pending self.new) (Inserted lba)) }
-        // Whatever is answered, and wherever power went off.
+        // Whatever the call answers, and whenever power goes off.
         ensures images { (s : CacheList) → Holds self.old (M.state media.old).contents s
             → ImagesOfWrite self.old (M.state media.new).contents s lba (written_clean lba block.now) }
         // Blocks that were each written for their own address stay so.
@@ -102,8 +102,8 @@ impl Ssc {
         }
     }
 
-    /// Puts a block at an address, clean. Over a held address that is committed at once: else a crash
-    /// would bring the old block back.
+    /// Puts a block at an address, clean. If the address is held, this is committed at once. Otherwise a crash would
+    /// bring the old block back.
     fn put_clean<M: Media>(
         &mut self,
         media: &mut M,
@@ -135,8 +135,8 @@ impl Ssc {
         write_buffered(&mut self.parts, media, lba, block)
     }
 
-    /// Reads the block of an address: false where it isn't held. It changes nothing, and only a block that
-    /// was found comes into `block`.
+    /// Reads the block of an address. It answers false if the address isn't held. It changes nothing, and `block` gets
+    /// only a block that was found.
     pub fn read<M: Media>(
         &mut self,
         media: &mut M,
@@ -159,15 +159,15 @@ impl Ssc {
         let mut spare = Spare([0; 32]);
         match media.read_page(place, block, &mut spare) {
             Ok(PageRead::Whole) => Ok(true),
-            // The page of an address that is held is whole: not blank,
+            // The page of an address that is held is whole: it isn't blank,
             Ok(PageRead::Blank) => unreachable!(),
-            // and not torn.
+            // and it isn't torn.
             Ok(PageRead::Torn) => unreachable!(),
             Err(error) => Err(of_media(error)),
         }
     }
 
-    /// Holds an address no more, on the flash when it answers Ok. It takes no memory.
+    /// Stops holding an address. This is on the flash when the call answers `Ok`. It allocates nothing.
     pub fn evict<M: Media>(&mut self, media: &mut M, lba: u64) -> Result<(), SscError>
         requires up { IsUp self.old (M.state media.old).contents }
         requires lba { lba < (geometry_of self.old).size }
@@ -194,7 +194,7 @@ impl Ssc {
         }
     }
 
-    /// Marks a dirty block clean. A crash may make it dirty again. It takes no memory.
+    /// Marks a dirty block clean. A crash may make it dirty again. It allocates nothing.
     pub fn clean<M: Media>(&mut self, media: &mut M, lba: u64) -> Result<(), SscError>
         requires up { IsUp self.old (M.state media.old).contents }
         requires lba { lba < (geometry_of self.old).size }
@@ -221,8 +221,8 @@ impl Ssc {
         }
     }
 
-    /// Adds the dirty ones of the `count` addresses from `from` on, ascending. Refused, `out` has the
-    /// items that it had.
+    /// Adds the dirty addresses among the `count` addresses from `from` on, ascending. On `Err` the items of `out` are
+    /// unchanged.
     pub fn exists(&self, from: u64, count: u64, out: &mut Vec<u64>) -> Result<(), AllocError>
         requires { from + count ≤ (geometry_of self.now).size }
         ensures done { OnOk result ((contents : Contents) (s : CacheList) → Holds self.now contents s → out.new.items ≡ out.old.items
@@ -232,7 +232,7 @@ impl Ssc {
         self.list_between(from, count, out)
     }
 
-    /// Puts all that is buffered on the flash. It takes no memory.
+    /// Puts all buffered changes on the flash. It allocates nothing.
     pub fn commit<M: Media>(&mut self, media: &mut M) -> Result<(), SscError>
         requires up { IsUp self.old (M.state media.old).contents }
         ensures runs { RunsInPlace self.old self.new (M.state media.old) (M.state media.new) result }
@@ -252,7 +252,7 @@ impl Ssc {
         }
     }
 
-    /// Makes a checkpoint of the whole map. It takes no memory.
+    /// Makes a checkpoint of the whole map. It allocates nothing.
     pub fn checkpoint<M: Media>(&mut self, media: &mut M) -> Result<(), SscError>
         requires up { IsUp self.old (M.state media.old).contents }
         ensures runs { RunsInPlace self.old self.new (M.state media.old) (M.state media.new) result }

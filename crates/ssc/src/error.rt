@@ -4,15 +4,15 @@ ghost use Rattle.ssc.specs.Errors as errors;
 use ft_media::MediaError;
 use thiserror::Error;
 
-/// Why a command of the cache was refused.
+/// Why a command of the cache failed.
 #[derive(Clone, Copy, Debug, PartialEq, Eq, Error)]
 pub enum SscError {
-    /// The groups with a dirty block would be more than there are data blocks. Nothing was changed.
+    /// There would be more groups with a dirty block than data blocks. Nothing has changed.
     #[error("the dirty groups would be more than the data blocks")]
     Full {
-        /// The dirty groups, with that of the address.
+        /// The dirty groups, counting the group of the address.
         dirty_groups: u32,
-        /// C, the most that there may be.
+        /// C, the most dirty groups that there may be.
         limit: u32,
     },
     /// The flash failed, and its count of faults rose.
@@ -21,13 +21,13 @@ pub enum SscError {
     /// Power was lost, and the count of cuts rose.
     #[error("power was lost")]
     PowerLost,
-    /// There was no memory. Nothing was changed but the order of the map's records and its buckets, which may have
-    /// doubled as the room that was asked for wants.
+    /// There was no memory. Nothing has changed, except the order of the map's records and its buckets, which may have
+    /// doubled as the wanted room needs.
     #[error("out of memory")]
     OutOfMemory,
 }
 
-/// What a command answers where the media answered this.
+/// The error of a command after the media answered this error.
 pub(crate) fn of_media(error: MediaError) -> SscError
     ensures { result ≡ errors.of_media error }
 {

@@ -14,8 +14,8 @@ use ft_base::Geometry;
 use ft_media::Media;
 
 impl Ssc {
-    /// Makes the flash that of an empty cache. It erases as many blocks as both checkpoint regions and the first log
-    /// region have, and programs one page. Refused or cut, the flash may stand for nothing.
+    /// Formats the flash for an empty cache. It erases as many blocks as both checkpoint regions and the first log
+    /// region have, and programs one page. If it fails or is cut, the flash may stand for nothing.
     pub fn format<M: Media>(media: &mut M, geometry: &Geometry) -> Result<(), SscError>
         requires shape { FitsOn geometry.now (M.state media.old).contents.shape }
         ensures done { OnOk result (FlashStandsFor geometry.now (M.state media.new).contents.flash.page empty) }

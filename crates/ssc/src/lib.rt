@@ -1,11 +1,11 @@
 //! The solid-state cache: a device that is addressed by the disk's own addresses, with six commands.
 //!
-//! The layers above see a cache and its flash as a list of held blocks, each dirty or clean (`Holds`).
-//! They rely on this: each command that answers Ok is its step on the list; at every moment of a
-//! command a crash leaves flash that stands for the list before, without what was buffered or with it,
-//! or for the list after the step; and `open` holds exactly what the flash stands for, in two steps of which
-//! the first only reads. A write may let wholly clean groups go, where more than C groups would be held. No call of
-//! the disk is made.
+//! The layers above see a cache and its flash as a list of held blocks, each dirty or clean (`Holds`). They rely on
+//! this: each command that answers `Ok` is its step on the list. A crash at any moment of a command leaves flash that
+//! stands for one of three lists. These are the list before it without the buffered changes, that list with them, and
+//! the list after the step. `open` holds exactly the list for which the flash stands, in two steps, the first of which
+//! only reads. A write may let wholly clean groups go, if more than C groups would be held. No call of the disk is
+//! made.
 #![tactic(auto)]
 
 mod cache;

@@ -8,8 +8,8 @@ use std::alloc::AllocError;
 
 // The steps of `exists`.
 impl Ssc {
-    /// Adds the dirty ones of the `count` addresses from `from` on, ascending. Refused, `out` has the
-    /// items that it had.
+    /// Adds the dirty addresses among the `count` addresses from `from` on, ascending. On `Err` the items of `out` are
+    /// unchanged.
     pub(crate) fn list_between(
         &self,
         from: u64,
@@ -30,8 +30,8 @@ impl Ssc {
         Ok(())
     }
 
-    /// Adds each address that is dirty, at least `from` and below `end`, once.
-    /// Whatever it answers, what was in `out` stands there still.
+    /// Adds each dirty address that is at least `from` and below `end`, once. Whatever it answers, the old items of
+    /// `out` are still its front.
     fn list_dirty(&self, from: u64, end: u64, out: &mut Vec<u64>) -> Result<(), AllocError>
         ensures done { OnOk result (AddsListed from end (entries_of self.now) out.old.items out.new.items) }
         ensures front { take (length out.old.items) out.new.items ≡ out.old.items }
@@ -42,8 +42,8 @@ impl Ssc {
         Ok(())
     }
 
-    /// Adds the address of the entry of number `i`, where it is dirty, at least `from` and below `end`.
-    /// Refused, `out` has the items that it had.
+    /// Adds the address of the entry of number `i`, if it is dirty, at least `from` and below `end`. On `Err` the items
+    /// of `out` are unchanged.
     fn list_number(&self, i: u32, from: u64, end: u64, out: &mut Vec<u64>) -> Result<(), AllocError>
         ensures done { OnOk result (AddsNumber self.now.parts.map.geometry (entries_of self.now) from end i out.old.items out.new.items) }
         ensures refused { OnErr result (out.new.items ≡ out.old.items) }
@@ -59,7 +59,7 @@ impl Ssc {
         }
     }
 
-    /// The address of the entry of number `i`, where it is dirty, at least `from` and below `end`.
+    /// The address of the entry of number `i`, if it is dirty, at least `from` and below `end`.
     fn dirty_nth(&self, i: u32, from: u64, end: u64) -> Option<u64>
         ensures { IsListedAt self.now.parts.map.geometry (entries_of self.now) from end i result }
     {

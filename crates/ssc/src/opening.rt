@@ -26,17 +26,17 @@ use op_log::OpenError;
 use recovery::{Loaded, load};
 use std::alloc::{AllocError, Global};
 
-/// A cache that was loaded, and of which no checkpoint is made yet. It is the first of the two steps of an
-/// opening: what a caller refuses between them has written nothing.
+/// A cache that was loaded, before its checkpoint is made. It is the first of the two steps of an opening: a caller
+/// that stops between them has written nothing.
 #[derive(Drop)]
 pub struct LoadedCache {
     pub(crate) cache: Ssc,
 }
 
 impl Ssc {
-    /// Loads what the flash stands for, in either format. A checkpoint of it is made in format 2, in the region that
-    /// hasn't the one that was found. Refused or cut, the flash stands for what it stood for. Unless the flash failed
-    /// or power was lost, a refusal writes nothing.
+    /// Loads the list for which the flash stands, in either format. It makes a checkpoint of it in format 2, in the
+    /// region that lacks the checkpoint that was found. If it fails or is cut, the flash still stands for the same
+    /// list. On `Err` it has written nothing, unless the flash failed or power was lost.
     pub fn open<M: Media>(
         alloc: Global,
         media: &mut M,
@@ -48,10 +48,10 @@ impl Ssc {
             → Holds c (M.state media.new).contents s) }
         ensures loads { IfOk result (λ c. load geometry.now (M.state media.old).contents.flash.page ≡ Ok (entries_of c)) }
         ensures opened { IfOk result (IsJustOpened geometry.now) }
-        // Whatever flash it was, commands may be called.
+        // Whatever the flash was, commands may be called.
         ensures is_up { IfOk result (λ c. IsUp c (M.state media.new).contents) }
         ensures refused { IfErr result (λ e. IsRefusal geometry.now e (load geometry.now (M.state media.old).contents.flash.page)) }
-        // Whatever is answered, and wherever power went off, nothing is lost and nothing comes back.
+        // Whatever the call answers, and whenever power goes off, nothing is lost and nothing comes back.
         ensures images { (s : CacheList) → FlashStandsFor geometry.now (M.state media.old).contents.flash.page s → (x : Image)
             → Now (M.state media.new).contents x → FlashStandsFor geometry.now x.page s }
         // Blocks that were each written for their own address stay so.
@@ -59,7 +59,7 @@ impl Ssc {
             → HoldsOwn c (M.state media.new).contents) }
         ensures same { load geometry.now (M.state media.new).contents.flash.page ≡ load geometry.now
             (M.state media.old).contents.flash.page }
-        // One checkpoint; and a refusal that is not of the flash or of power writes nothing.
+        // It makes one checkpoint; and an error that isn't the flash's or power's writes nothing.
         ensures costs { CostsOpening geometry.now (M.state media.old) (M.state media.new) result }
         ensures drives { DrivesFlash (M.state media.old) (M.state media.new) (open_failed result) (open_lost result) }
     {
@@ -69,7 +69,7 @@ impl Ssc {
 }
 
 impl LoadedCache {
-    /// Loads what the flash stands for, in either format, and takes the memory of the parts. It writes nothing.
+    /// Loads the list for which the flash stands, in either format, and allocates the parts. It writes nothing.
     pub fn load<M: Media>(
         alloc: Global,
         media: &mut M,
@@ -92,8 +92,8 @@ impl LoadedCache {
         })
     }
 
-    /// Adds the dirty ones of the `count` addresses from `from` on, ascending. Refused, `out` has the
-    /// items that it had.
+    /// Adds the dirty addresses among the `count` addresses from `from` on, ascending. On `Err` the items of `out` are
+    /// unchanged.
     pub fn exists(&self, from: u64, count: u64, out: &mut Vec<u64>) -> Result<(), AllocError>
         requires { from + count ≤ (geometry_of self.now.cache).size }
         ensures done { OnOk result ((g : Geometry) (page : Place → Page) (s : CacheList) → IsLoadedFrom g page self.now
@@ -103,17 +103,17 @@ impl LoadedCache {
         self.cache.list_between(from, count, out)
     }
 
-    /// Makes a checkpoint of what was loaded, in format 2, in the region that hasn't the one that was found. It
-    /// takes no memory. Refused or cut, the flash stands for what it stood for.
+    /// Makes a checkpoint of the loaded list, in format 2, in the region that lacks the checkpoint that was found. It
+    /// allocates nothing. If it fails or is cut, the flash still stands for the same list.
     pub fn seal<M: Media>(self, media: &mut M) -> Result<Ssc, OpenError>
         requires shape { FitsOn (geometry_of self.cache) (M.state media.old).contents.shape }
         requires loaded { IsLoadedFrom (geometry_of self.cache) (M.state media.old).contents.flash.page self }
         ensures entries { IfOk result (λ c. entries_of c ≡ entries_of self.cache) }
         ensures opened { IfOk result (IsOpenedOver (geometry_of self.cache) (M.state media.old).contents.flash.page
             (M.state media.new).contents) }
-        // The flash failed or power was lost, and no memory was wanting.
+        // The flash failed or power was lost; memory never fails.
         ensures refused { IfErr result IsOfFlash }
-        // Whatever is answered, and wherever power went off, nothing is lost and nothing comes back.
+        // Whatever the call answers, and whenever power goes off, nothing is lost and nothing comes back.
         ensures stands { StandsStill (geometry_of self.cache) (M.state media.old).contents.flash.page (M.state media.new).contents }
         ensures costs { CostsOpening (geometry_of self.cache) (M.state media.old) (M.state media.new) result }
         ensures drives { DrivesFlash (M.state media.old) (M.state media.new) (open_failed result) (open_lost result) }
@@ -128,7 +128,7 @@ impl LoadedCache {
     }
 }
 
-/// The parts over what was loaded.
+/// The parts over a loaded map.
 fn parts_of(alloc: Global, geometry: &Geometry, loaded: Loaded) -> Result<Parts, AllocError>
     requires map { loaded.map.geometry ≡ geometry.now }
     requires is_map { IsMap geometry.now loaded.map.entries }

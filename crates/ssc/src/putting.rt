@@ -21,9 +21,9 @@ use ft_base::Block;
 use ft_media::{Media, MediaError};
 use merge_engine::{Parts, append, commit, note_clean, put_out, put_page};
 
-// What the commands do once nothing refuses them.
+// The steps of the commands once nothing refuses them.
 impl Ssc {
-    /// Whether the groups with a dirty address, together with that of this one, would be more than C.
+    /// Whether there would be more than C groups with a dirty address, counting the group of this address.
     pub(crate) fn is_full(&self, lba: u64) -> bool
         requires of_one { self.now.parts.map.geometry ≡ geometry_of self.now }
         ensures full { IsTrue result → dirty_groups_with (geometry_of self.now) (entries_of self.now) lba ≡ (geometry_of self.now).c + 1 }
@@ -53,7 +53,7 @@ impl Ssc {
         }
     }
 
-    /// Gives the cache up where the device refused a call of a command that writes.
+    /// Gives the cache up after the device failed a call of a command that writes.
     pub(crate) fn give_up(&mut self, error: MediaError) -> SscError
         ensures error { result ≡ errors.of_media error }
         ensures cache { self.new ≡ record self.old { stopped = true } }
@@ -63,7 +63,7 @@ impl Ssc {
     }
 }
 
-/// Puts a block at an address, dirty or clean, and commits that.
+/// Puts a block at an address, dirty or clean, and commits this.
 pub(crate) fn write_committed<M: Media>(
     parts: &mut Parts,
     media: &mut M,
@@ -91,7 +91,7 @@ pub(crate) fn write_committed<M: Media>(
     commit(parts, media)
 }
 
-/// Puts a block at an address, clean. That is only buffered, unless the buffer is full.
+/// Puts a block at an address, clean. This is only buffered, unless the buffer is full.
 pub(crate) fn write_buffered<M: Media>(
     parts: &mut Parts,
     media: &mut M,
@@ -117,7 +117,7 @@ pub(crate) fn write_buffered<M: Media>(
     commit_if_full(parts, media)
 }
 
-/// Appends a block, and puts its address there.
+/// Appends a block, and puts its address at its page.
 fn write_page<M: Media>(
     parts: &mut Parts,
     media: &mut M,
@@ -138,19 +138,19 @@ fn write_page<M: Media>(
     ensures list_stands { HasLogBlock parts.old → (list durable : CacheList)
         → Lists parts.old (M.state media.old).contents.flash.page list durable
         → FlashStandsForEither parts.old.geometry (M.state media.new).contents.flash.page durable list }
-    // Where the open log block has a page left: one program, and all that was buffered is.
+    // If the open log block has a page left: one program, and all changes that were buffered still are.
     ensures one_program { OnOk result (1 ≤ parts.old.log_blocks.room → IsPushed parts.old lba dirty parts.new
         × ((M.state media.new).counts ≡ program_counted (M.state media.old).counts)) }
     ensures pages { OnOk result (PutsPages 1 parts.old parts.new (M.state media.old) (M.state media.new)) }
     ensures drives { OnlyDrives (M.state media.old) (M.state media.new) result }
 {
-    // The page first: a log page may name whole pages alone.
+    // The page is programmed first, because a log page may name only whole pages.
     let place = append(parts, media, lba, block)?;
     put_page(parts, lba, place, dirty);
     Ok(())
 }
 
-/// Takes an address out, and commits that.
+/// Takes an address out, and commits this.
 pub(crate) fn take_out<M: Media>(
     parts: &mut Parts,
     media: &mut M,
@@ -164,7 +164,7 @@ pub(crate) fn take_out<M: Media>(
     ensures nothing_waits { OnOk result (parts.new.log.buffered ≡ []) }
     ensures lists { OnOk result ((list durable : CacheList) → Lists parts.old (M.state media.old).contents.flash.page list durable
         → Lists parts.new (M.state media.new).contents.flash.page (evicted lba list) (evicted lba list)) }
-    // Whatever is answered, and wherever power went off.
+    // Whatever the call answers, and whenever power goes off.
     ensures stands { (list durable : CacheList) → Lists parts.old (M.state media.old).contents.flash.page list durable
         → FlashStandsForEither parts.old.geometry (M.state media.new).contents.flash.page durable (evicted lba list) }
     ensures one_program { OnOk result (parts.old.log.next < log_pages parts.old.geometry
@@ -190,7 +190,7 @@ pub(crate) fn mark_clean<M: Media>(
     ensures lists { OnOk result ((list durable : CacheList) → Lists parts.old (M.state media.old).contents.flash.page list durable
         → ListsAfter parts.old.log.buffered (Clean lba) parts.new (M.state media.new).contents.flash.page durable list
         (made_clean lba list)) }
-    // Whatever is answered, and wherever power went off.
+    // Whatever the call answers, and whenever power goes off.
     ensures stands { (list durable : CacheList) → Lists parts.old (M.state media.old).contents.flash.page list durable
         → FlashStandsForEither parts.old.geometry (M.state media.new).contents.flash.page durable (made_clean lba list) }
     ensures no_write { length parts.old.log.buffered + 2 ≤ page_records parts.old.log.geometry → M.state media.new ≡ M.state media.old }
@@ -200,7 +200,7 @@ pub(crate) fn mark_clean<M: Media>(
     commit_if_full(parts, media)
 }
 
-/// Commits where no more may be buffered.
+/// Commits if no more changes may be buffered.
 fn commit_if_full<M: Media>(parts: &mut Parts, media: &mut M) -> Result<(), MediaError>
     requires agree { PartsAgree parts.old (M.state media.old).contents }
     ensures cache { parts.new ≡ record parts.old { log = parts.new.log } }

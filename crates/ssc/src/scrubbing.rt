@@ -14,22 +14,22 @@ use ft_base::{Place, Spare, zero_block};
 use ft_media::{Media, PageRead};
 use page_oob::write_spare;
 
-/// What a scrub found.
+/// The findings of a scrub.
 #[derive(Clone, Copy, Debug, PartialEq, Eq)]
 pub struct Scrub {
     /// The pages that were read: one for each address that is held.
     pub pages: u64,
-    /// The lowest of them whose spare bytes aren't those of a data page of its address.
+    /// The lowest of these pages whose spare bytes aren't a data page's of its address.
     pub strange: Option<Place>,
 }
 
 impl Ssc {
-    /// Reads every page that is held, and looks at its spare bytes. It changes nothing, and takes no memory.
+    /// Reads every page that is held, and looks at its spare bytes. It changes nothing, and allocates nothing.
     pub fn scrub<M: Media>(&mut self, media: &mut M) -> Result<Scrub, SscError>
         requires up { IsUp self.old (M.state media.old).contents }
         ensures same { self.new ≡ self.old }
         ensures found { IfOk result (IsScrub (geometry_of self.old) (M.state media.old).contents.flash.page (entries_of self.old)) }
-        // Nothing is strange exactly where each block that is held was written for its address.
+        // No page is strange exactly when each held block was written for its address.
         ensures own { IfOk result (λ scrub. (s : CacheList) → Holds self.old (M.state media.old).contents s
             → (scrub.strange ≡ None) ↔ AreOwn s) }
         ensures full { (n l : ℕ) → IsErrOf result (SscError.Full n l) → ⊥ }
@@ -46,7 +46,7 @@ impl Ssc {
         Ok(found)
     }
 
-    /// Looks at the page of number `i` as well, where it is held, after all the lower ones.
+    /// Also looks at the page of number `i`, if it is held, after all lower ones.
     fn scrub_number<M: Media>(
         &self,
         media: &mut M,

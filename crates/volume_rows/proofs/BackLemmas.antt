@@ -1,4 +1,4 @@
--- What the tests open a volume over: flash that holds one clean block, or that another volume left.
+-- The media over which the tests open a volume: flash that holds one clean block, or flash that another volume left.
 use Rattle.std.proofs.Common.{◌≡◌, ℕ, ◌/◌, ◌==◌, Bool, true, false, cond, List, [], Some, None, refl, sym, ◌∙◌, ap, subst, eqb-true, nat_cmp}
 use Rattle.std.specs.FinMap.{get, empty, get-empty}
 use Rattle.ft_base.specs.declared.block.Block.{Block}
@@ -19,7 +19,7 @@ use Rattle.cached_disk.specs.declared.disk.CachedDisk.{CachedDisk}
 use Rattle.cached_disk.specs.Kept as kept
 use Rattle.cached_disk.proofs.DiskLemmas.{one_value, same_list}
 
--- it holds this block alone, clean
+-- the flash holds only this block, clean
 abbrev pub HoldsAlone : Geometry → Contents → ℕ → Block → Type 0
 HoldsAlone g contents lba block = (s : CacheList) → FlashStandsFor g contents.flash.page s → (a : ℕ) (h : Held) → get s a ≡ Some h → (a ≡ lba) × (h ≡ written_block lba block false)
 
@@ -50,7 +50,7 @@ alone_may_open o contents lba block alone disk s stands = (
   tt,
 )
 
--- a volume may be opened over what another left
+-- a volume may be opened over the media that another left
 pub left_may_open : (v : CachedDisk) (contents : Contents) (o : Options) → kept.IsLeft v contents → v.options.geometry ≡ o.geometry → MayOpen (told_for Back o) contents
 left_may_open v contents o left own s stands =
     let same = same_list v.options.geometry contents.flash.page left.list s left.beneath.flash (subst (λ (g : Geometry). FlashStandsFor g contents.flash.page s) (sym own) stands) in

@@ -21,8 +21,8 @@ use std::alloc::Global;
 use std::test::Fail;
 use write_back::WriteBack;
 
-/// A volume of 64 blocks on erase blocks of 4 pages, for two dirty groups, of which an idle step leaves
-/// one. Its log has 4 pages.
+/// A volume of 64 blocks on erase blocks of 4 pages, for two dirty groups; an idle step leaves one of them. Its log has
+/// 4 pages.
 fn options() -> Result<Options, Fail>
     ensures { IfOk result (λ options. 5 < options.geometry.size) }
 {
@@ -67,7 +67,7 @@ fn reopened(
     WriteBack::open(alloc, rig, options)
 }
 
-/// Puts a block on the disk, where no other value of it may be left.
+/// Puts a block on the disk, so that no other value of it may be left.
 fn put_on_disk(rig: &mut MemRig, lba: u64, block: &Block) -> Result<(), Fail>
     requires { lba < (state_of rig.old).contents.shape.size }
     ensures shape { (state_of rig.new).contents.shape ≡ (state_of rig.old).contents.shape }
@@ -100,7 +100,7 @@ fn hold_clean(
     Ok(())
 }
 
-/// A volume that is opened over such flash, and the same block on the disk.
+/// A volume that is opened over such flash, with the same block on the disk.
 fn over_clean(
     alloc: Global,
     rig: &mut MemRig,
@@ -145,7 +145,7 @@ fn a_volume_reads_what_was_written(rt: HostRuntime) -> Result<(), Fail> {
     Ok(())
 }
 
-/// The same over a volume that is opened from the media which the first steps left.
+/// The same over a volume that is opened from the media that the first steps left.
 fn first_wrong_reopened(
     alloc: Global,
     before: &[Step],

@@ -1,7 +1,7 @@
-//! Worked examples of both volumes: what is read after a write, after a cut and after an opening, what reaches
-//! the disk and when, and what is refused.
+//! Worked examples of both volumes: reads after a write, after a cut and after an opening, what reaches the disk and
+//! when, and which calls fail.
 //!
-//! No layer stands on this crate; it has tests alone.
+//! No layer uses this crate; it has only tests.
 #![tactic(auto)]
 
 #[cfg(test)]

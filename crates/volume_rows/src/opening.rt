@@ -1,4 +1,4 @@
-//! An opening in two steps: what was loaded tells the dirty addresses before anything is written.
+//! An opening in two steps: the loaded cache knows the dirty addresses before anything is written.
 ghost use Rattle.std.specs.Prelude.{◌≡◌, ◌<◌, OnOk, IfOk};
 ghost use Rattle.mem_rig.specs.Rig.{state_of};
 ghost use Rattle.op_log.specs.Log.{FitsOn};
@@ -24,7 +24,7 @@ fn options() -> Result<Options, Fail>
     })
 }
 
-/// A rig just large enough, with flash that a cache left with one block, dirty.
+/// A rig just large enough, with flash on which a cache left one dirty block.
 fn left(alloc: Global, options: &Options) -> Result<MemRig, Fail>
     requires { 6 < options.now.geometry.size }
     ensures { IfOk result (λ rig. FitsOn options.now.geometry (state_of rig).contents.shape) }
@@ -46,7 +46,7 @@ fn written(before: Counts, after: Counts) -> (u64, u64) {
     )
 }
 
-/// What a cache that was loaded lists of the addresses from 1 on.
+/// The addresses from 1 on that a loaded cache lists.
 fn listed(alloc: Global) -> Result<Vec<u64>, Fail> {
     let options = options()?;
     let mut rig = left(alloc, &options)?;
@@ -62,7 +62,7 @@ fn a_loaded_cache_lists_its_dirty_addresses(rt: HostRuntime) -> Result<(), Fail>
     Ok(())
 }
 
-/// What the load of a cache writes.
+/// The programs and erases of a cache's load.
 fn written_by_load(alloc: Global) -> Result<(u64, u64), Fail> {
     let options = options()?;
     let mut rig = left(alloc, &options)?;
@@ -77,7 +77,7 @@ fn a_load_writes_nothing(rt: HostRuntime) -> Result<(), Fail> {
     Ok(())
 }
 
-/// How many addresses a cache holds that was loaded and then sealed.
+/// How many addresses a cache holds after it was loaded and sealed.
 fn held_when_sealed(alloc: Global) -> Result<u64, Fail> {
     let options = options()?;
     let mut rig = left(alloc, &options)?;
@@ -106,7 +106,7 @@ fn the_load_of_a_cached_disk_flushes_the_disk_once(rt: HostRuntime) -> Result<()
     Ok(())
 }
 
-/// Whether a cached disk that was loaded and then sealed is to be opened again.
+/// Whether a cached disk must be opened again after it was loaded and sealed.
 fn down_when_sealed(alloc: Global) -> Result<bool, Fail> {
     let options = options()?;
     let mut rig = left(alloc, &options)?;

@@ -1,18 +1,18 @@
-//! Calls of a volume one after another, each with what it must answer.
+//! Calls of a volume one after another, each with the answer that it must give.
 ghost use Rattle.ft_volume.specs.Volume.{StaysOwner};
 
 use ft_base::{Block, Outcome, pattern, tag_of, zero_block};
 use ft_media::{Media, Rig};
 use ft_volume::{Idled, Report, Volume, VolumeError};
 
-/// A call of a volume with what it must answer, or what must be seen of it.
+/// A call of a volume with the answer that it must give, or a fact that must be seen.
 #[derive(Clone, Copy)]
 pub(crate) enum Step {
-    /// Writes a pattern of an address with a tag.
+    /// Writes the pattern of an address with a tag.
     Write(u64, u64),
     /// Reads the pattern of an address with a tag.
     Read(u64, u64),
-    /// Neither writes nor reads an address that it doesn't have, and no count of the rig rises.
+    /// Fails to write and to read an address that it doesn't have, and no count of the rig rises.
     Refuse(u64),
     /// Flushes.
     Flush,
@@ -46,7 +46,7 @@ pub(crate) fn block_of(lba: u64, tag: u64) -> Block {
     block
 }
 
-// Each call with no more in its contract than the next one asks.
+// Each call promises in its contract only what the next one requires.
 
 fn write<R: Rig, V: Volume<R>>(
     volume: &mut V,
@@ -76,7 +76,7 @@ fn read<R: Rig, V: Volume<R>>(
     }
 }
 
-/// Whether a write and a read of an address are refused, and no count of the rig rises.
+/// Whether a write and a read of an address fail, and no count of the rig rises.
 fn refuses<R: Rig, V: Volume<R>>(volume: &mut V, rig: &mut R, lba: u64) -> bool
     requires { V.owns volume.old (R.state rig.old).contents }
     ensures owner { StaysOwner (V.owns volume.new) (R.state rig.new).contents (V.state volume.old) (V.state volume.new) }
@@ -117,7 +117,7 @@ fn report<R: Rig, V: Volume<R>>(volume: &mut V, rig: &mut R) -> Result<Report, V
     volume.report(rig)
 }
 
-/// Whether a report tells these numbers.
+/// Whether a report has these numbers.
 fn reports<R: Rig, V: Volume<R>>(volume: &mut V, rig: &mut R, wanted: (u64, u32, u64)) -> bool
     requires { V.owns volume.old (R.state rig.old).contents }
     ensures owner { StaysOwner (V.owns volume.new) (R.state rig.new).contents (V.state volume.old) (V.state volume.new) }
@@ -128,7 +128,7 @@ fn reports<R: Rig, V: Volume<R>>(volume: &mut V, rig: &mut R, wanted: (u64, u32,
     }
 }
 
-/// Makes a step, and says whether it answers that.
+/// Makes a step, and says whether it gives the expected answer.
 fn agrees<R: Rig, V: Volume<R>>(volume: &mut V, rig: &mut R, step: Step) -> bool
     requires { V.owns volume.old (R.state rig.old).contents }
     ensures owner { StaysOwner (V.owns volume.new) (R.state rig.new).contents (V.state volume.old) (V.state volume.new) }
@@ -156,7 +156,7 @@ fn agrees<R: Rig, V: Volume<R>>(volume: &mut V, rig: &mut R, step: Step) -> bool
     }
 }
 
-/// Makes the steps one after another, up to the first that answers something else. Says which that is.
+/// Makes the steps one after another, up to the first that gives another answer. Answers which step that is.
 pub(crate) fn first_wrong<R: Rig, V: Volume<R>>(
     volume: &mut V,
     rig: &mut R,

@@ -66,7 +66,7 @@ fn first_wrong_anew(alloc: Global, steps: &[Step]) -> Result<Option<usize>, Fail
     Ok(first_wrong(&mut volume, &mut rig, steps))
 }
 
-/// The same over a volume that is opened from the media which the first steps left.
+/// The same over a volume that is opened from the media that the first steps left.
 fn first_wrong_reopened(
     alloc: Global,
     before: &[Step],

@@ -1,4 +1,4 @@
--- Addresses whose blocks the disk has are made clean, and with that a group is written back.
+-- Addresses whose blocks the disk has are made clean; that writes a group back.
 use Rattle.std.proofs.Common.{◌≡◌, ◌⊎◌, ℕ, ◌+◌, ◌/◌, ◌<◌, ◌==◌, ◌&&◌, ◌||◌, not, Bool, true, false, cond, List, [], ◌∷◌, length, take, get_or, filter, Option, Some, None, option_map, Ok, Err, inl, inr, refl, sym, ◌∙◌, ap, ap₂, subst, arith, eqb-true, eq-eqb}
 use Rattle.std.specs.Prelude.{OnErr, OnOk}
 use Rattle.std.specs.Option.{is_some}
@@ -67,7 +67,7 @@ module _ (lba : ℕ) (s : CacheList) where
       by_choice true (Some h) = refl
       by_choice false o = refl
 
-  -- what is held was, with the same block
+  -- a block that is held was held before, with the same contents
   pub cleaned_was : (a : ℕ) (h : Held) → get (made_clean lba s) a ≡ Some h → (k : Held) × (get s a ≡ Some k) × (k.block ≡ h.block) × (((a ≡ lba) × (h.dirty ≡ false)) ⊎ (k ≡ h))
   cleaned_was a h at = elim (cases_Bool (a == lba)) [
     | inl t ↦ here (eqb-true a lba t) (get s a) refl (sym (ap (λ c. cond c (option_map (marked_as false) (get s a)) (get s a)) t) ∙ sym (cleaned_at a) ∙ at)
@@ -83,7 +83,7 @@ module _ (lba : ℕ) (s : CacheList) where
   pub cleaned_other : (a : ℕ) → (a == lba) ≡ false → get (made_clean lba s) a ≡ get s a
   cleaned_other a f = cleaned_at a ∙ ap (λ c. cond c (option_map (marked_as false) (get s a)) (get s a)) f
 
--- where all is flushed and the disk has its block
+-- if all blocks are flushed and the disk has the address's block
 module _ (v : CachedDisk) (k : Ssc) (s t : State) (list : CacheList) (lba : ℕ) (own : geometry_of v.cache ≡ v.options.geometry) (shape : FitsOn v.options.geometry s.contents.shape) (is : IsHeld v s.contents list) (back : v.mode ≡ Back)
     (alone : IsFlushed s.contents) (on : IsOnDisk v s.contents lba) (stays : Stays s.contents t.contents) (fits : t.contents.shape ≡ s.contents.shape) (geometry : geometry_of k ≡ geometry_of v.cache) where
   abbrev after_clean : CacheList
@@ -125,7 +125,7 @@ module _ (v : CachedDisk) (k : Ssc) (s t : State) (list : CacheList) (lba : ℕ)
   left_by page (AsBefore x) = record { list_of = list; stands = own_flash v own page list x; agrees = is.agrees; over = λ d over. over }
   left_by page (AsAfter x) = record { list_of = after_clean; stands = own_flash v own page after_clean x; agrees = cleaned_agrees; over = cleaned_over }
 
-  -- refused
+  -- the call failed
   module _ (down : is_down (record v { cache = k }) ≡ true) (one : FlashStandsForOne (geometry_of v.cache) t.contents.flash.page (undo (pending v.cache) list) list after_clean) where
     beneath : IsBeneath (told_of v) t.contents (left_by t.contents.flash.page one).list_of
     beneath = let x = left_by t.contents.flash.page one in step_beneath v k s.contents t.contents stays list x.list_of x.agrees (any_suits x.list_of) x.stands
@@ -137,7 +137,7 @@ module _ (v : CachedDisk) (k : Ssc) (s t : State) (list : CacheList) (lba : ℕ)
         (down_left (record v { cache = k }) t.contents x.list_of own_now fits_now down beneath)
         (λ d stand. over_stands (told_of v) t.contents x.list_of beneath d (step_over v k s.contents t.contents stays x.list_of d (x.over d (held_over v s.contents list own is d stand))))
 
-  -- done
+  -- the call was done
   module _ (holds : Holds k t.contents after_clean) where
     pub held_clean : IsHeld (record v { cache = k }) t.contents after_clean
     held_clean = record {
@@ -290,7 +290,7 @@ without_more true true z = refl
 without_more true false z = refl
 without_more false y z = refl
 
--- once its addresses are clean, the dirty ones are those of the other groups
+-- once its addresses are clean, the dirty addresses are those that belong to other groups
 pub group_cleaned : (v w : CachedDisk) (old new : Contents) (s t : CacheList) (p n : ℕ) → IsHeld v old s → IsHeld w new t
     → ((a : ℕ) → is_among (dirty_of w) a ≡ (is_among (dirty_of v) a && not (is_among (in_group p n (dirty_of v)) a))) → dirty_of w ≡ out_of_group p n (dirty_of v)
 group_cleaned v w old new s t p n is now cleaned =
@@ -322,13 +322,13 @@ group_cleaned v w old new s t p n is now cleaned =
 pub group_among : (p n : ℕ) (xs lbas items : List ℕ) → lbas ≡ items → items ≡ in_group p n xs → (a : ℕ) → is_among lbas a ≡ true → is_among xs a ≡ true
 group_among p n xs lbas items are own a among = (and_parts (a / p == n) (is_among xs a) (sym (among_filter (λ k. k / p == n) xs a) ∙ sym (ap (λ (l : List ℕ). is_among l a) (are ∙ own)) ∙ among)).1
 
--- ---- the whole
+-- ---- the whole write-back
 
 pub back_refused : (v w : CachedDisk) (r : Answer) → OnErr r (is_down w ≡ true) → OnErr r (is_down w ≡ false → w ≡ v)
 back_refused v w (Ok done) down = tt
 back_refused v w (Err e) down = λ up. absurd (both_ways (is_down w) up down)
 
--- where it stays up, nothing was changed but on the disk
+-- if the volume stays up, only the disk has changed
 pub still_same : (v w : CachedDisk) (r : Answer) → is_down v ≡ false → w ≡ record v { down = w.down } → OnErr r (is_down w ≡ false → w ≡ v)
 still_same v w (Ok done) up same = tt
 still_same v w (Err e) up same = λ now. same ∙ ap (λ (d : Bool). record v { down = d }) (first_false w.down w.cache.stopped now ∙ sym (first_false v.down v.cache.stopped up))

@@ -40,7 +40,7 @@ use Rattle.write_back.specs.Cleaning.{IsFlushed, IsOnDisk, Proceeds, is_among}
 use Rattle.cached_disk.proofs.AddressLemmas.{has_lba, holds_lbas, holds_within, lbas_dirty, lbas_has}
 use Rattle.write_back.proofs.PartLemmas.{Answers, CallsDisk, answers_disk, answers_read, lacks_memory, proceeds_down, proceeds_then, refuses_disk, refuses_read, writes_nothing, writes_one}
 
--- ---- what is held
+-- ---- the list that is held
 
 pub holds_one : (c : Ssc) (contents : Contents) (s t : CacheList) → Holds c contents s → Holds c contents t → s ≡ t
 holds_one c contents s t x y = same_map nat_cmp_total nat_cmp-IsAntisymmetric s t (λ a. x.lists.held a ∙ sym (y.lists.held a))
@@ -58,7 +58,7 @@ module _ (v : CachedDisk) (contents : Contents) (s : CacheList) (is : IsHeld v c
       let dirty = dirty_is a among in
       subst (λ (g : Geometry). a < g.size) own (holds_within v.cache contents s is.holds a dirty.0 dirty.1)
 
--- ---- where the cache and its list stay: reads, and calls of the disk
+-- ---- if the cache and its list stay: reads, and calls of the disk
 
 -- each value of the disk was there, or is a dirty block that is held
 pub record Shows (s : CacheList) (old new : Contents) : Type 0 where
@@ -122,11 +122,11 @@ module _ (v : CachedDisk) (old new : Contents) (s : CacheList) (own : geometry_o
   stands_now d stand = over_stands (told_of v) new without_buffered beneath_now d
       (over_same v.options.geometry new.disk s without_buffered d (undo_same new.disk s agrees_now (geometry_of v.cache) (pending v.cache) (none_written v.cache.parts.log.buffered) is.holds.waits) (over_now d (held_over v old s own is d stand)))
 
-  -- refused, it is down
+  -- the call failed, so the volume is down
   pub left_down : (k : Ssc) → k ≡ v.cache → IsLeft (record v { cache = k; down = true }) new
   left_down k same = subst (λ (c : Ssc). IsLeft (record v { cache = c; down = true }) new) (sym same) (down_left (record v { down = true }) new without_buffered own shape_now refl beneath_now)
 
-  -- else it holds the list still
+  -- else the volume still holds the list
   module _ (flash : new.flash ≡ old.flash) (settled : (a : ℕ) → (old.disk a).earlier ≡ [] → ((new.disk a).earlier ≡ []) ⊎ IsDirtyIn s a) where
     held_now : IsHeld v new s
     held_now = record {
@@ -140,7 +140,7 @@ module _ (v : CachedDisk) (old new : Contents) (s : CacheList) (own : geometry_o
     pub left_up : IsLeft v new
     left_up = held_left v new s own held_now shape_now
 
--- Ok was answered
+-- the call answered `Ok`
 module _ (v : CachedDisk) (k : Ssc) (same : k ≡ v.cache) (s t : State) (n : ℕ) (up : is_down v ≡ false) where
   pub proceeds_up : Answers s t → WritesDisk n s t (Ok tt) → IsLeft v t.contents → KeepsPlainDisk (told_of v) s.contents t.contents → Proceeds n v (record v { cache = k }) s t (Ok tt)
   proceeds_up answers writes left stands = subst (λ (c : Ssc). Proceeds n v (record v { cache = c }) s t (Ok tt)) (sym same) (record {
@@ -164,7 +164,7 @@ module _ (v : CachedDisk) (k : Ssc) (same : k ≡ v.cache) (s t : State) (n : �
     within = λ is. absurd (cc);
   })
 
--- ---- what is on the disk
+-- ---- the blocks that are on the disk
 
 module _ (v : CachedDisk) (k : Ssc) (same : k ≡ v.cache) (old new : Contents) (flash : new.flash ≡ old.flash) (shape : new.shape ≡ old.shape) where
   holds_was : (t : CacheList) → Holds k new t → Holds v.cache old t

@@ -1,4 +1,4 @@
--- A volume that was opened: its table was made of what was loaded, and then its checkpoint was made.
+-- A volume that was opened: its table came from the loaded entries, and then its checkpoint was made.
 use Rattle.std.proofs.Common.{◌≡◌, ℕ, List, Ok, Err, refl, sym, ◌∙◌, ap, subst}
 use Rattle.ft_base.specs.declared.geometry.Geometry.{Geometry}
 use Rattle.ft_base.specs.Told.{Told}
@@ -28,7 +28,7 @@ module _ (loaded : LoadedDisk) (options : Options) (made : loaded.options ≡ op
   same_geometry : loaded.options.geometry ≡ disk.options.geometry
   same_geometry = ap (λ (o : Options). o.geometry) made ∙ sym (ap (λ (t : Told). t.geometry) opens.opened.told)
 
-  -- the table is that of the volume
+  -- the table is the volume's table
   table_now : IsTableOf disk.options.geometry (dirty_of disk) dirty
   table_now = subst (λ (g : Geometry). IsTableOf g (dirty_of disk) dirty) same_geometry (subst (λ (m : Entries). IsTableOf loaded.options.geometry (dirty_lbas m) dirty) (sym entries) table)
 

@@ -1,4 +1,4 @@
--- Parts of a write-back: one after another, and what the media do in each.
+-- Parts of a write-back: one after another, and the effects on the media of each.
 use Rattle.std.proofs.Common.{◌≡◌, ℕ, ◌+◌, ◌≤◌, Bool, true, false, List, [], None, Result, Ok, Err, refl, sym, ◌∙◌, ap, subst, arith}
 use Rattle.std.specs.Prelude.{OnOk}
 use Rattle.std.proofs.lemmas.Bool.{both_ways}
@@ -78,7 +78,7 @@ module _ (a b c : CachedDisk) (s t u : State) (m n : ℕ) (first : Proceeds m a 
   pub proceeds_then : (k : ℕ) (r : Answer) → m + n ≡ k → Proceeds n b c t u r → Proceeds k a c s u r
   proceeds_then k r sum then = joined k r (writes_first s t u m n k r sum first.writes then.writes) then
 
-  -- refused at last
+  -- the last part failed
   pub proceeds_refused : (k : ℕ) (e : VolumeError) (r : Answer) → m + n ≤ k → r ≡ Err e → Proceeds n b c t u (Err e) → Proceeds k a c s u r
   proceeds_refused k e r most is then = subst (λ (q : Answer). Proceeds k a c s u q) (sym is) (joined k (Err e) (record {
     exact = tt;
@@ -139,22 +139,22 @@ module _ (v : CachedDisk) (s : State) (up : is_down v ≡ false) (left : IsLeft 
     within = λ is. absurd (cc);
   }
 
--- ---- what the media do
+-- ---- the effects on the media
 
--- what a call of the disk leaves of the flash, the faults and power
+-- how a call of the disk changes the flash, the faults and power
 pub record CallsDisk (s t : State) (r : Result (Unit {0}) MediaError) : Type 0 where
   pub flash : FlashStays s.contents t.contents (lost r)
   pub cause : DiskCause s.faults t.faults (failed r) (lost r)
   pub device : DeviceWrite s t r
   pub passes : Passes s t (lost r)
 
--- Ok was answered
+-- the call answered `Ok`
 pub record Answers (s t : State) : Type 0 where
   pub ready : KeepsReady s t
   pub cause : HasCause {T = Unit {0}} s.faults t.faults (Ok tt)
   pub passes : Passes s t false
 
--- this was, with no block written to the disk
+-- the call failed, and no block was written to the disk
 pub record Refuses (s t : State) (r : VolumeError) : Type 0 where
   pub memory : r ≡ volume.OutOfMemory → ⊥
   pub within : r ≡ volume.OutOfVolume → ⊥
@@ -278,7 +278,7 @@ module _ (s t : State) where
   pub refuses_drive : (e : SscError) (r : VolumeError) → IsOfCache e r → (e ≡ OutOfMemory → ⊥) → DrivesFlash s t (ssc_failed {T = Unit {0}} (Err e)) (ssc_lost {T = Unit {0}} (Err e)) → Refuses s t r
   refuses_drive e r is other drives = refuses_flash (Unit {0}) e r is other drives.cause drives.passes drives.disk_writes drives.disk_reads
 
--- refused, it is down
+-- the call failed, so the volume is down
 module _ (v : CachedDisk) (k : Ssc) (d : Bool) (s t : State) (r : VolumeError) where
   abbrev refused_disk : CachedDisk
   refused_disk = record v { cache = k; down = d }

@@ -1,4 +1,4 @@
--- The table of the dirty groups: what a write, a group that is written back, and an opening make of it.
+-- The table of the dirty groups: how a write, a group that is written back, and an opening change it.
 use Rattle.std.proofs.Common.{◌≡◌, ◌⊎◌, ℕ, zero, suc, ◌+◌, ◌-◌, ◌/◌, ◌≤◌, ◌<◌, ◌==◌, nat_le, not, ◌&&◌, ◌||◌, Bool, true, false, cond, if◌then◌else◌, List, [], ◌∷◌}
 use Rattle.std.proofs.Common.{◌++◌, length, get_or, take, map, filter, slice_get, Some, Ordering, Less, Equal, Greater, inl, inr, refl, sym, ◌∙◌, ap, subst, arith, nat_cmp, eqb-true, eq-eqb, take_all}
 use Rattle.std.specs.List.{AllByRecursion, list_any}
@@ -155,7 +155,7 @@ last_waiting p (x ∷ y ∷ order) lbas n apart is =
 
 -- ---- a group gets an address
 
--- the groups but one, where each other one has the same of both lists of addresses
+-- the groups but one, if each other group has the same addresses in both lists
 module _ (p n : ℕ) (lbas new : List ℕ) (same : (m : ℕ) → (m == n) ≡ false → in_group p m lbas ≡ in_group p m new) where
   abbrev others : List ℕ → Table
   others order = filter (λ w. not (is_of n w)) (waiting_in p order lbas)
@@ -264,7 +264,7 @@ module _ (g : Geometry) (s : CacheList) (order : List ℕ) (apart : AreApart ord
 pub few_exact : (g : Geometry) (s : CacheList) (order : List ℕ) → AreApart order → IsExact g.p order (lbas_in s) → length (dirty_groups g s) ≡ length order
 few_exact g s order apart exact = few_are g s order apart exact
 
--- one more group, which is there, or for which there is room
+-- one more group, which is there, or has room
 one_fits : (n c : ℕ) (xs : List ℕ) → AreApart xs → (has n xs ≡ true) ⊎ (length xs < c) → length xs ≤ c → length (each_once (n ∷ xs)) ≤ c
 one_fits n c xs apart (inl there) few = subst (λ (k : ℕ). k ≤ c) (sym (ap (λ b. length (cond b (each_once xs) (n ∷ each_once xs))) (sym (has_member n xs) ∙ there) ∙ ap (λ (l : List ℕ). length l) (once_apart xs apart))) few
 one_fits n c xs apart (inr less) few = by (member n xs) (ap (λ (l : List ℕ). length l) (once_apart xs apart))
@@ -281,7 +281,7 @@ not_full_exact g s order lba apart exact room few full =
 
 -- ---- the table of a cache that was opened, along its dirty addresses
 
--- the groups of the first so many addresses, in order
+-- the groups of the first i addresses, in order
 pub record IsTableSoFar (p : ℕ) (lbas : List ℕ) (i : ℕ) (groups : List ℕ) : Type 0 where
   pub apart : AreApart groups
   pub exact : IsExact p groups (take i lbas)
@@ -308,7 +308,7 @@ take_ascending zero ns up = tt
 take_ascending (suc i) [] up = tt
 take_ascending (suc i) (n ∷ ns) up = (all_take (λ k. n < k) i ns up.0, take_ascending i ns up.1)
 
--- what stands before an address is below it
+-- the addresses that stand before an address are below it
 before_below : (i : ℕ) (ns : List ℕ) → AreAscending ns → i < length ns → AllByRecursion (λ k. k < get_or ns i 0) (take i ns)
 before_below zero ns up within = tt
 before_below (suc i) [] up within = tt
@@ -369,7 +369,7 @@ module _ (p : ℕ) (lbas : List ℕ) (i : ℕ) (order : List ℕ) (so_far : IsTa
       let x = so_far.exact.only n (has_member n order ∙ there) in
       ap (λ k. member k (map (λ a. a / p) lbas)) (sym x.2) ∙ member_map (λ a. a / p) x.0 lbas (member_take x.0 i lbas x.1)
 
-  -- no more groups are there than those of all addresses, so the next address finds room for its own
+  -- there are at most as many groups as all addresses have, so the next address has room for its own
   pub so_far_room : (c : ℕ) → i < length lbas → length (each_once (map (λ a. a / p) lbas)) ≤ c → (has (get_or lbas i 0 / p) order ≡ true) ⊎ (length order < c)
   so_far_room c within few = elim (cases_Bool (has n order)) [
     | inl there ↦ inl there
@@ -385,7 +385,7 @@ module _ (p : ℕ) (lbas : List ℕ) (i : ℕ) (order : List ℕ) (so_far : IsTa
       n : ℕ
       n = get_or lbas i 0 / p
 
-  -- at the end it is the table of all
+  -- at the end it is the table of all addresses
   pub so_far_exact : length lbas ≤ i → IsExact p order lbas
   so_far_exact past = subst (λ (l : List ℕ). IsExact p order l) (take_all i lbas past) so_far.exact
 
@@ -396,6 +396,6 @@ pub map_twice : {X : Type 0} (f : X → ℕ) (g : ℕ → ℕ) (es : List X) →
 map_twice f g [] = refl
 map_twice f g (x ∷ es) = ap (λ l. g (f x) ∷ l) (map_twice f g es)
 
--- a cache has no more dirty groups than it may
+-- a cache has at most as many dirty groups as it may have
 pub few_lbas : (g : Geometry) (m : Entries) → IsMap g m → length (each_once (map (λ a. a / g.p) (dirty_lbas m))) ≤ g.c
 few_lbas g m map = subst (λ (l : List ℕ). length (each_once l) ≤ g.c) (sym (map_twice (λ (x : ℕ × Entry). x.0) (λ a. a / g.p) (filter (λ (x : ℕ × Entry). x.1.dirty) (entries m)))) map.dirty_groups

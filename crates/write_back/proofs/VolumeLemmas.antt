@@ -1,4 +1,4 @@
--- A volume that comes up, with a table that is made of its cache.
+-- A volume that comes up, with a table that comes from its cache.
 use Rattle.std.proofs.Common.{rules, arith, Result, Ok, Err, ◌≡◌, ◌⊎◌, ℕ, ◌+◌, ◌/◌, ◌≤◌, ◌<◌, nat_lt, lt-ltb, Option, Some, None, Bool, true, false, if◌then◌else◌, List, [], ◌++◌, length, get_or, map, inl, refl, sym, ◌∙◌, ap, subst}
 use Rattle.std.specs.Prelude.{IsTrue}
 use Rattle.std.specs.FinMap.{get}
@@ -52,7 +52,7 @@ use Rattle.write_back.proofs.TableLemmas.{IsTableSoFar, few_lbas, length_waiting
 
 -- ---- the table of a cache
 
--- the table is that of the first so many addresses
+-- the table of the first i addresses
 pub record IsMade (g : Geometry) (lbas : List ℕ) (i : ℕ) (table : Groups) : Type 0 where
   pub limit : table.limit ≡ g.c
   pub so_far : IsTableSoFar g.p lbas i table.order
@@ -73,7 +73,7 @@ module _ (g : Geometry) (lbas : List ℕ) (ascends : AreAscending lbas) (few : l
       subst (λ (t : Groups). IsMade g lbas (i + 1) t) (sym (is_new ∙ ap (λ (q : ℕ). groups_in_order (touched (get_or lbas i 0 / q) table.order) table.limit) own))
       (record { limit = made.limit; so_far = so_far_more g.p lbas i table.order ascends within made.so_far })
 
-  -- and at the end it is the table of all
+  -- at the end it is the table of all addresses
   pub made_all : length lbas ≤ i → IsTableOf g lbas table
   made_all past = record {
     groups = record { limit = made.limit; apart = made.so_far.apart };
@@ -92,7 +92,7 @@ module _ (v : CachedDisk) (over : (contents : Contents) × MayServe v contents) 
   inside : (a : ℕ) (h : Held) → get held a ≡ Some h → a < v.options.geometry.size
   inside a h at = subst (λ (g : Geometry). a < g.size) over.1.left.own (holds_within v.cache over.0 held holds a h at)
 
-  -- what the cache lists behind nothing
+  -- the addresses that the cache adds to an empty list
   pub listed : (lbas out before : List ℕ) (n : ℕ) → lbas ≡ out → before ≡ [] → n ≡ v.options.geometry.size → ((contents : Contents) (s : CacheList) → Holds v.cache contents s → out ≡ before ++ dirty_between 0 n s) → lbas ≡ dirty_of v
   listed lbas out before n is none all done =
       is
@@ -111,7 +111,7 @@ module _ (v : CachedDisk) (over : (contents : Contents) × MayServe v contents) 
         let own : IsMap v.options.geometry (entries_of v.cache) = subst (λ (g : Geometry). IsMap g (entries_of v.cache)) over.1.left.own (agree_map v.cache.parts over.0 holds.agree) in
         subst (λ (l : List ℕ). length (each_once (map (λ a. a / v.options.geometry.p) l)) ≤ v.options.geometry.c) (sym is) (few_lbas v.options.geometry (entries_of v.cache) own)
 
--- and of one that was loaded
+-- the dirty addresses of a cache that was loaded
 module _ (v : LoadedDisk) (from : (page : Place → Page) × IsLoadedFrom v.options.geometry page v.cache) where
   abbrev entries_now : Entries
   entries_now = entries_of v.cache.cache
@@ -138,7 +138,7 @@ module _ (v : LoadedDisk) (from : (page : Place → Page) × IsLoadedFrom v.opti
       by None none = absurd (let both : Some h.dirty ≡ None = sym (ap (option_map (λ (k : Held). k.dirty)) at) ∙ alike a ∙ ap (option_map (λ (e : Entry). e.dirty)) none in cc)
       by (Some e) is = own_map.within a e is
 
-  -- what it lists behind nothing
+  -- the addresses that the loaded cache adds to an empty list
   pub loaded_listed : (lbas out before : List ℕ) (n : ℕ) → lbas ≡ out → before ≡ [] → n ≡ v.options.geometry.size
       → ((g : Geometry) (page : Place → Page) (s : CacheList) → IsLoadedFrom g page v.cache → FlashStandsFor g page s → out ≡ before ++ dirty_between 0 n s) → lbas ≡ dirty_lbas entries_now
   loaded_listed lbas out before n is none all done =
@@ -159,9 +159,9 @@ module _ (v : LoadedDisk) (from : (page : Place → Page) × IsLoadedFrom v.opti
   pub loaded_size : (geometry_of v.cache.cache).size ≡ v.options.geometry.size
   loaded_size = ap (λ (g : Geometry). g.size) from.1.parts.geometry
 
--- ---- it comes up
+-- ---- the volume comes up
 
--- it is up already
+-- the volume is up already
 pub stays_up : (v : WriteBack) (state : State) → IsLeft v state.contents → kept.is_down v.disk ≡ false → ComesUp {T = Unit {0}} ImageIs Loads (state_of v) (state_of v) state state (Ok tt)
 stays_up v state left up = record {
   told = refl;
@@ -180,7 +180,7 @@ stays_up v state left up = record {
   passes = search rules;
 }
 
--- the memory of its table was refused, so it is given up again
+-- the memory of its table was refused, so the volume is given up again
 pub given_up : (v : CachedDisk) (table : Groups) (contents : Contents) → kept.IsLeft v contents → v.mode ≡ Back → IsDirtyTable v.options.geometry table → IsLeft (record { disk = record v { down = true }; dirty = table }) contents
 given_up v table contents left back is = record {
   disk = given_up_left v contents left;
@@ -191,7 +191,7 @@ given_up v table contents left back is = record {
 
 -- ---- an idle step that writes a group back
 
--- more groups are dirty than may stay so
+-- more groups are dirty than may stay dirty
 pub goes_over : (v : WriteBack) → v.disk.mode ≡ Back → v.disk.options.dirty < length v.dirty.order → goes_back (state_of v).told.mode (state_of v).told.dirty (length (state_of v).table) ≡ true
 goes_over v back over =
     ap (λ (m : Mode). goes_back m v.disk.options.dirty (length (state_of v).table)) back
@@ -237,7 +237,7 @@ cleaned_costs old new before after goes table same writes = record {
     back : backs_of Idles old.told old.table ≡ last_size old.table
     back = ap (λ (b : Bool). if b then last_size old.table else 0) goes
 
--- that was refused
+-- the write-back failed
 pub uncleaned_steps : (old new : WriteBack) (before after : State) (e : VolumeError) → Steps {T = Unit {0}} old new before after (Err e) → Steps {T = Idled} old new before after (Err e)
 uncleaned_steps old new before after e steps = record {
   left = steps.left;
@@ -272,7 +272,7 @@ uncleaned_costs old new before after e goes writes same = record {
     back : backs_of Idles old.told old.table ≡ last_size old.table
     back = ap (λ (b : Bool). if b then last_size old.table else 0) goes
 
--- it flushes the disk once at most
+-- the step flushes the disk once at most
 pub cleaned_asks : (old new : VolumeState) (before after : State) (result : Result Idled VolumeError) → goes_back old.told.mode old.told.dirty (length old.table) ≡ true → after.counts.disk_flushes ≤ before.counts.disk_flushes + 1 → AsksDevices Idles old old new before after result
 cleaned_asks old new before after result goes most =
     let one : flushes_of Idles old.told old.table ≡ 1 = ap (λ (b : Bool). if b then 1 else 0) goes in

@@ -1,4 +1,4 @@
--- Writes to the cache of a volume that writes back, and what its table of dirty groups is then.
+-- Writes to the cache of a volume that writes back, and its table of dirty groups after them.
 use Rattle.std.proofs.Common.{◌≡◌, ◌⊎◌, ℕ, zero, suc, ◌+◌, ◌-◌, ◌*◌, ◌/◌, ◌≤◌, ◌<◌, ◌==◌, ◌||◌, nat_le, Bool, true, false, cond, List, [], ◌∷◌, length, map, filter, Some, Ok, Err, Result, inl, inr, refl, sym, ◌∙◌, ap, subst, arith}
 use Rattle.std.proofs.Math.Nat.{div-mul-le_self}
 use Rattle.std.proofs.Math.Path.{fun_ext}
@@ -75,7 +75,7 @@ one_less : (w : Waiting) (t : Table) → suc (length (without_last (w ∷ t))) �
 one_less w [] = refl
 one_less w (v ∷ t) = ap suc (one_less v t)
 
--- without its last group a table has one less
+-- without its last group a table has one group less
 pub fewer_last : (t : Table) (c : ℕ) → 0 < c → length t ≤ c → length (without_last t) < c
 fewer_last [] c some few = some
 fewer_last (w ∷ t) c some few = let one = one_less w t in omega (arith, one, few)
@@ -89,15 +89,15 @@ full_not p c n order lbas room = full_waiting p c n order lbas ∙ by_room (has 
     by_room false b (inl is) = absurd (let no : false ≡ true = is in cc)
     by_room false b (inr is) = is
 
--- and else the table is full
+-- else the table is full
 pub full_is : (p c n : ℕ) (order lbas : List ℕ) → has n order ≡ false → nat_le c (length order) ≡ true → is_full c n (waiting_in p order lbas) ≡ true
 full_is p c n order lbas none full = full_waiting p c n order lbas ∙ ap (λ b. cond b false (nat_le c (length order))) none ∙ full
 
--- then nothing goes out of the table
+-- no group then leaves the table
 pub room_there : (p c n : ℕ) (order lbas : List ℕ) → (has n order ≡ true) ⊎ (nat_le c (length order) ≡ false) → waiting_in p order lbas ≡ room_made c n (waiting_in p order lbas)
 room_there p c n order lbas room = sym (ap (λ b. cond b (without_last (waiting_in p order lbas)) (waiting_in p order lbas)) (full_not p c n order lbas room))
 
--- and nothing goes to the disk
+-- no block then goes to the disk
 pub none_back : (p c n : ℕ) (order lbas : List ℕ) (s : State) → (has n order ≡ true) ⊎ (nat_le c (length order) ≡ false) → WritesDisk (backs_made c n (waiting_in p order lbas)) s s (Ok tt)
 none_back p c n order lbas s room = subst (λ (b : Bool). WritesDisk (cond b (last_size (waiting_in p order lbas)) 0) s s (Ok tt)) (sym (full_not p c n order lbas room)) (record { exact = λ below. omega arith; most = omega arith; reads = refl })
 
@@ -125,7 +125,7 @@ module _ (v : WriteBack) (contents : Contents) (left : IsLeft v contents) (up : 
       let begins : n * v.disk.options.geometry.p ≤ x.0 = subst (λ (k : ℕ). k * v.disk.options.geometry.p ≤ x.0) x.2 (div-mul-le_self x.0 v.disk.options.geometry.p) in
       omega (arith, begins, within)
 
-  -- they are no more than there may be
+  -- there are at most as many groups as there may be
   pub few_order : length v.dirty.order ≤ v.disk.options.geometry.c
   few_order =
       let g : Geometry = v.disk.options.geometry in
@@ -135,7 +135,7 @@ module _ (v : WriteBack) (contents : Contents) (left : IsLeft v contents) (up : 
       let few = few_lbas g (entries_of v.disk.cache) is_map in
       omega (arith, all, as_many, few)
 
-  -- it isn't full for a group that has room in the table
+  -- the cache isn't full for a group that has room in the table
   pub has_room : (lba : ℕ) → HasTableRoom v.dirty (lba / v.disk.options.geometry.p) → (e : SscError) → FullExactly (geometry_of v.disk.cache) held_list lba {T = Unit {0}} (Err e) → (n limit : ℕ) → e ≡ Full n limit → ⊥
   has_room lba room e exactly n limit is =
       not_full_exact v.disk.options.geometry held_list v.dirty.order lba left.table.apart exact_listed
@@ -143,14 +143,14 @@ module _ (v : WriteBack) (contents : Contents) (left : IsLeft v contents) (up : 
       few_order
       (subst (λ (g : Geometry). IsFull g held_list lba) left.disk.own ((subst (λ (x : SscError). FullExactly (geometry_of v.disk.cache) held_list lba {T = Unit {0}} (Err x)) is exactly).0))
 
-  -- a refusal of the cache takes it down, where the memory was there
+  -- an error of the cache takes the volume down, if the memory was there
   pub refused_down : (lba : ℕ) → HasTableRoom v.dirty (lba / v.disk.options.geometry.p) → v.disk.cache.ready ≡ true → (c : Ssc) (e : SscError) → FullExactly (geometry_of v.disk.cache) held_list lba {T = Unit {0}} (Err e)
       → (e ≡ OutOfMemory → v.disk.cache.ready ≡ false) → c.stopped ≡ stops {T = Unit {0}} (Err e) → is_down (record v.disk { cache = c }) ≡ true
   refused_down lba room ready c e exactly memory stopped = stopped_down v.disk c (stopped ∙ gives_up e (has_room lba room e exactly) (λ is. both_ways v.disk.cache.ready (memory is) ready))
 
 -- ---- the oldest group was written back
 
--- then there is room in the table
+-- there then is room in the table
 pub room_left : (v w : WriteBack) (before after : Contents) (n : ℕ) → IsLeft v before → is_down v.disk ≡ false → IsLeft w after → (state_of w).told ≡ (state_of v).told → (state_of w).table ≡ without_last (state_of v).table → HasTableRoom w.dirty n
 room_left v w before after n left up now told table =
     let g : Geometry = v.disk.options.geometry in
@@ -160,7 +160,7 @@ room_left v w before after n left up now told table =
     let limit : w.dirty.limit ≡ g.c = now.table.limit ∙ ap (λ (t : Told). t.geometry.c) told in
     inr (subst (λ (k : ℕ). length w.dirty.order < k) (sym limit) (subst (λ (k : ℕ). k < g.c) (sym shorter) less))
 
--- and its table has exactly the groups that are left
+-- the table has exactly the groups that are left
 pub cleaned_left : (v : WriteBack) (disk : CachedDisk) (table : Groups) (before after : Contents) (n : ℕ) → IsLeft v before → is_down v.disk ≡ false → kept.IsLeft disk after → (disk.options ≡ v.disk.options) × (disk.mode ≡ v.disk.mode)
     → dirty_of disk ≡ out_of_group v.disk.options.geometry.p n (dirty_of v.disk) → table ≡ groups_in_order (without_first n v.dirty.order) v.dirty.limit → IsLeft (record { disk = disk; dirty = table }) after
 cleaned_left v disk table before after n left up now made cleaned less = record {
@@ -183,7 +183,7 @@ may_back : (mode : Mode) → mode ≡ Back → (q : List Buffered) → MayUndo m
 may_back mode back q = subst (λ (m : Mode). MayUndo m q) (sym back) tt
 
 module _ (v : CachedDisk) (old : Contents) (s : CacheList) (own : geometry_of v.cache ≡ v.options.geometry) (is : IsHeld v old s) where
-  -- what a crash leaves: the flash stands for a list that shows what the one that is held shows
+  -- the flash that a crash leaves: it stands for a list that shows the same blocks as the held list
   pub record ShowsHeld (page : Place → Page) : Type 0 where
     pub list : CacheList
     pub stands : FlashStandsFor v.options.geometry page list
@@ -191,7 +191,7 @@ module _ (v : CachedDisk) (old : Contents) (s : CacheList) (own : geometry_of v.
     pub over : (d : PlainDisk) → IsOver v.options.geometry s old.disk d → IsOver v.options.geometry list old.disk d
 
   module _ (lba : ℕ) (block : Block) where
-    -- a list with the block, of what is left of the one that is held once clean groups gave way
+    -- a list with the block, made from the held list after clean groups gave way
     pub record HasBlock (list : CacheList) : Type 0 where
       pub agrees : Agrees list old.disk
       pub here : IsDirtyIn list lba
@@ -227,7 +227,7 @@ module _ (v : CachedDisk) (old : Contents) (s : CacheList) (own : geometry_of v.
         over = λ d over. written_over w lba block v.options.geometry old.disk d (gave_over d over);
       }
 
-    -- wherever it was cut
+    -- whenever it was cut
     write_shows : (page : Place → Page) → FlashStandsForWrite (geometry_of v.cache) page (undo (pending v.cache) s) s lba (written_dirty lba block) → ShowsHeld page ⊎ ((t : CacheList) × FlashStandsFor v.options.geometry page t × HasBlock t)
     write_shows page (AsUndone x) = inl (record { list = undone v old s own is; stands = own_flash v own page (undo (pending v.cache) s) x; agrees = (held_beneath v old s own is).agrees; over = undone_over v old s own is })
     write_shows page (AsLeft w vanish x) = inl (shows_left w vanish page x)
@@ -238,7 +238,7 @@ module _ (v : CachedDisk) (old new : Contents) (s : CacheList) (own : geometry_o
   abbrev with_cache : CachedDisk
   with_cache = record v { cache = c }
 
-  -- it was done
+  -- the write was done
   module _ (h : HoldsWritten c new s lba (written_dirty lba block)) where
     vanish_now : Vanish (geometry_of v.cache) s lba h.left
     vanish_now = subst (λ (g : Geometry). Vanish g s lba h.left) geometry h.vanish
@@ -270,7 +270,7 @@ module _ (v : CachedDisk) (old new : Contents) (s : CacheList) (own : geometry_o
         (subst (λ (f : ℕ → Bool). volume.HoldsAfter (told_of v) (Writes lba block) (λ a. is_some (get s a)) f) now
         (written_held (told_of v) (Writes lba block) s h.left lba (written_block lba block true) (own_vanish v old s own is lba block h.left vanish_now) refl (λ a is. is)))
 
-  -- it was refused or cut
+  -- the write failed or was cut
   module _ (stands : FlashStandsForWrite (geometry_of v.cache) new.flash.page (undo (pending v.cache) s) s lba (written_dirty lba block)) where
     shows : ShowsHeld v old s own is new.flash.page ⊎ ((t : CacheList) × FlashStandsFor v.options.geometry new.flash.page t × HasBlock v old s own is lba block t)
     shows = write_shows v old s own is lba block new.flash.page stands
@@ -290,9 +290,9 @@ module _ (v : CachedDisk) (old new : Contents) (s : CacheList) (own : geometry_o
       | inr x ↦ inr (over_stands (told_of v) new x.0 (beneath_now x.0 x.2.agrees x.1) (set d lba block) (step_over v c old new stays x.0 (set d lba block) (x.2.over d (held_over v old s own is d stand))))
     ]
 
--- ---- its group is noted
+-- ---- the group is noted
 
--- the table, touched where memory wasn't wanting
+-- the table, touched if memory didn't fail
 pub noted_as : {T E : Type 0} (order : List ℕ) (limit lba own p : ℕ) (table : Groups) (r : Result T E) → false ≡ is_err r → own ≡ p → OnOk r (table ≡ groups_in_order (touched (lba / own) order) limit) → table ≡ groups_in_order (touched (lba / p) order) limit
 noted_as order limit lba own p table r none same is = on_ok_of r (sym none) is ∙ ap (λ k. groups_in_order (touched (lba / k) order) limit) same
 
@@ -319,7 +319,7 @@ module _ (v : WriteBack) (lba : ℕ) (c : Ssc) (table : Groups) (noted : table �
     is : IsHeld v.disk before.contents left.disk.held
     is = is_held v before.contents left up
 
-    -- done
+    -- the write was done
     module _ (h : HoldsWritten c after.contents left.disk.held lba (written_dirty lba block)) where
       lbas : dirty_lbas (entries_of c) ≡ with_lba lba (dirty_of v.disk)
       lbas = write_lbas v.disk before.contents after.contents left.disk.held left.disk.own is left.mode lba block c geometry shape stays h
@@ -345,7 +345,7 @@ module _ (v : WriteBack) (lba : ℕ) (c : Ssc) (table : Groups) (noted : table �
       pub put_holds : volume.HoldsAfter (told_of v.disk) (Writes lba block) (state_of v).held (state_of written).held
       put_holds = write_holds v.disk before.contents after.contents left.disk.held left.disk.own is left.mode lba block c geometry shape stays h
 
-    -- refused or cut, so it is down
+    -- the write failed or was cut, so the volume is down
     module _ (images : ImagesOfWrite v.disk.cache after.contents left.disk.held lba (written_dirty lba block)) (down : is_down written.disk ≡ true) where
       stands : FlashStandsForWrite (geometry_of v.disk.cache) after.contents.flash.page (undo (pending v.disk.cache) left.disk.held) left.disk.held lba (written_dirty lba block)
       stands = images (with_newest after.contents) (newest_image after.contents)
@@ -421,7 +421,7 @@ module _ (lba : ℕ) (block : Block) (old mid new : VolumeState) (before between
       every_ok (Ok t) p = p
       every_ok (Err e) p = tt
 
-  -- room was made, and no more was changed
+  -- room was made, and nothing else changed
   pub room_up : mid.table ≡ room_made old.told.geometry.c (lba / old.told.geometry.p) old.table → ((a : ℕ) → mid.held a ≡ old.held a) → StaysUp (Writes lba block) old mid
   room_up room held = record { same = λ no. absurd (false≢true (sym no)); table = by_full (is_full old.told.geometry.c (lba / old.told.geometry.p) old.table) room; held = λ a. inl (held a) }
     where

@@ -1,4 +1,4 @@
--- What the parts of a write-back leave.
+-- The state after each part of a write-back.
 use Rattle.std.specs.Prelude.{◌≡◌, ◌==◌, ℕ, Bool, false, List, [], Some, Result, IsErrOf}
 use Rattle.std.specs.List.{list_any}
 use Rattle.std.specs.FinMap.{get}
@@ -14,11 +14,11 @@ use Rattle.ssc.specs.CacheState.{Holds, entries_of}
 use Rattle.cached_disk.specs.declared.disk.CachedDisk.{CachedDisk}
 use Rattle.cached_disk.specs.Kept.{IsLeft, IsMadeAs, is_down, state_in, told_of, WritesDisk}
 
--- the address is one of these
+-- the address is one of this list
 abbrev pub is_among : List ℕ → ℕ → Bool
 is_among lbas a = list_any (λ k. k == a) lbas
 
--- the newest block that the disk has at the address is the one that is held
+-- the newest block that the disk has at the address is the held block
 abbrev pub IsOnDisk : CachedDisk → Contents → ℕ → Type 0
 IsOnDisk v contents a = (s : CacheList) → Holds v.cache contents s → (h : Held) → get s a ≡ Some h → (contents.disk a).newest ≡ h.block
 
@@ -26,8 +26,8 @@ IsOnDisk v contents a = (s : CacheList) → Holds v.cache contents s → (h : He
 abbrev pub IsFlushed : Contents → Type 0
 IsFlushed contents = (a : ℕ) → (contents.disk a).earlier ≡ []
 
--- a part of a write-back: with Ok so many blocks went to the disk, else no more; the plain disk is as before, and while it is up
--- what was held is
+-- a part of a write-back. After `Ok` n blocks went to the disk, else at most n. The plain disk is unchanged, and while
+-- the volume is up the same addresses are held
 pub record Proceeds (n : ℕ) (old new : CachedDisk) (before after : State) (result : Result (Unit {0}) VolumeError) : Type 0 where
   pub left : IsLeft new after.contents
   pub stands : KeepsPlainDisk (told_of old) before.contents after.contents

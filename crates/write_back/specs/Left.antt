@@ -1,4 +1,4 @@
--- What a volume is that writes back, and what it leaves on its media.
+-- A volume that writes back, and the media that it leaves.
 use Rattle.std.specs.Prelude.{◌≡◌, ◌<◌, ◌/◌, ◌==◌, not, ℕ, true, false, List, [], ◌∷◌, filter, Result, IsErrOf}
 use Rattle.std.specs.List.{list_any}
 use Rattle.ft_base.specs.Contents.{Contents}
@@ -13,33 +13,33 @@ use Rattle.cached_disk.specs.Kept.{dirty_of, state_in}
 use Rattle.cached_disk.specs.Kept as kept
 use Rattle.write_back.specs.declared.volume.WriteBack.{WriteBack}
 
--- what it is at this moment
+-- the state at this moment
 abbrev pub state_of : WriteBack → VolumeState
 state_of v = state_in v.dirty.order v.disk
 
--- each of them is there once
+-- each number of the list is there once
 abbrev pub AreApart : List ℕ → Type 0
 AreApart [] = Unit {0}
 AreApart (n ∷ ns) = (list_any (λ k. k == n) ns ≡ false) × AreApart ns
 
--- the table is of distinct groups, for as many as there may be
+-- the table has distinct groups, with room for the most that there may be
 pub record IsDirtyTable (g : Geometry) (table : Groups) : Type 0 where
   pub limit : table.limit ≡ g.c
   pub apart : AreApart table.order
 
--- a group is in the order exactly where one of these addresses is its own
+-- a group is in the order exactly when one of these addresses is its own
 pub record IsExact (p : ℕ) (order lbas : List ℕ) : Type 0 where
   pub all : (a : ℕ) → list_any (λ k. k == a) lbas ≡ true → has (a / p) order ≡ true
   pub only : (n : ℕ) → has n order ≡ true → (a : ℕ) × (list_any (λ k. k == a) lbas ≡ true) × (a / p ≡ n)
 
--- the contents are those that the volume left; while it is up its table has exactly the dirty groups
+-- the contents are the ones that the volume left; while it is up its table has exactly the dirty groups
 pub record IsLeft (v : WriteBack) (contents : Contents) : Type 0 where
   pub disk : kept.IsLeft v.disk contents
   pub mode : v.disk.mode ≡ Back
   pub table : IsDirtyTable v.disk.options.geometry v.dirty
   pub exact : kept.is_down v.disk ≡ false → IsExact v.disk.options.geometry.p v.dirty.order (dirty_of v.disk)
 
--- these addresses of a group, and those of the others
+-- the addresses of a group among these, and the addresses of the others
 abbrev pub in_group : ℕ → ℕ → List ℕ → List ℕ
 in_group p n lbas = filter (λ a. a / p == n) lbas
 
@@ -52,7 +52,7 @@ pub record MayWrite (v : WriteBack) (contents : Contents) (a : ℕ) : Type 0 whe
   pub up : kept.is_down v.disk ≡ false
   pub lba : a < v.disk.options.geometry.size
 
--- a step over the volume: what it leaves, whatever it answers
+-- a step over the volume, and the state that it leaves, whatever it answers
 pub record Steps {T : Type 0} (old new : WriteBack) (before after : State) (result : Result T VolumeError) : Type 0 where
   pub left : IsLeft new after.contents
   pub goes : Goes (state_of old) (state_of new) before after result

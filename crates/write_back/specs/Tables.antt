@@ -6,7 +6,7 @@ use Rattle.dirty_table.specs.Groups.{Groups}
 use Rattle.cached_disk.specs.Kept.{waiting_in}
 use Rattle.write_back.specs.Left.{IsDirtyTable, IsExact}
 
--- the table is that of the groups of these addresses, which are told in its order as if each had been written, ascending
+-- the table has the groups of these addresses. With its order they stand as if each address had been written, ascending
 pub record IsTableOf (g : Geometry) (lbas : List ℕ) (table : Groups) : Type 0 where
   pub groups : IsDirtyTable g table
   pub exact : IsExact g.p table.order lbas

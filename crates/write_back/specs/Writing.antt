@@ -13,19 +13,20 @@ use Rattle.ssc.specs.CacheState.{log_room, open_room}
 abbrev pub HasTableRoom : Groups → ℕ → Type 0
 HasTableRoom table group = (has group table.order ≡ true) ⊎ (length table.order < table.limit)
 
--- the table of so many groups at most, once this group has room in it
+-- the table with at most c groups, once this group has room in it
 abbrev pub room_made : ℕ → ℕ → Table → Table
 room_made c group t = if is_full c group t then without_last t else t
 
--- the blocks that go to the disk for that
+-- the blocks that go to the disk to make room
 abbrev pub backs_made : ℕ → ℕ → Table → ℕ
 backs_made c group t = if is_full c group t then last_size t else 0
 
--- and the flushes of the disk
+-- the flushes of the disk to make room
 abbrev pub flushes_made : ℕ → ℕ → Table → ℕ
 flushes_made c group t = if is_full c group t then 1 else 0
 
--- once a block was put there: two pages at least were programmed, and just two where the open log block and the log had room
+-- once a block was put in the cache, at least two pages were programmed, and exactly two if the open log block and the
+-- log had room
 pub record CostsBlock (old : Ssc) (before after : State) (result : Result (Unit {0}) VolumeError) : Type 0 where
   pub two_programs : OnOk result (1 ≤ open_room old → 1 ≤ log_room old → after.counts ≡ program_counted (program_counted before.counts))
   pub programs : OnOk result (ProgramsPages 2 before after)

@@ -13,8 +13,8 @@ use ft_media::{Media, MediaError};
 use ft_volume::VolumeError;
 use std::alloc::AllocError;
 
-/// Writes the dirty blocks of a group to the disk, flushes the disk, and marks the blocks clean.
-/// The plain disk is as before, whatever is answered.
+/// Writes the dirty blocks of a group to the disk, flushes the disk, and marks the blocks clean. The plain disk is
+/// unchanged, whatever the answer is.
 pub(crate) fn write_group_back<M: Media>(
     disk: &mut CachedDisk,
     media: &mut M,
@@ -37,7 +37,7 @@ pub(crate) fn write_group_back<M: Media>(
     clean_blocks(disk, media, lbas.as_slice())
 }
 
-/// The dirty addresses of a group, ascending. It looks at the pages of the group alone.
+/// The dirty addresses of a group, ascending. It looks only at the pages of the group.
 fn dirty_in_group(disk: &CachedDisk, group: u64) -> Result<Vec<u64>, AllocError>
     requires may { (contents : Contents) × MayServe disk.now contents }
     requires group { group * disk.now.options.geometry.p < disk.now.options.geometry.size }
@@ -76,10 +76,10 @@ fn copy_blocks<M: Media>(
     Ok(())
 }
 
-/// Writes the held block of a dirty address to the disk. It goes through `block`, one for all addresses.
+/// Writes the held block of a dirty address to the disk. It goes through `block`, one buffer for all addresses.
 ///
-/// Refused, the volume is down. Want of memory alone leaves it up: the blocks written so far are dirty
-/// still, so it doesn't matter which of their values a crash leaves.
+/// On `Err` the volume is down, except if it fails with out of memory. Then the blocks written so far are still dirty,
+/// so it doesn't matter which of their values a crash leaves.
 fn copy_block<M: Media>(
     disk: &mut CachedDisk,
     media: &mut M,
@@ -111,8 +111,8 @@ fn copy_block<M: Media>(
     }
 }
 
-/// Flushes the disk. Until that is done a crash may leave the older block of an address, so that none may
-/// be marked clean. Refused, the volume is down.
+/// Flushes the disk. Until this is done a crash may leave the older block of an address, so none may be marked clean.
+/// On `Err` the volume is down.
 fn flush_copies<M: Media>(disk: &mut CachedDisk, media: &mut M) -> Result<(), VolumeError>
     requires may { MayServe disk.old (M.state media.old).contents }
     ensures proceeds { Proceeds 0 disk.old disk.new (M.state media.old) (M.state media.new) result }
@@ -155,7 +155,7 @@ fn clean_blocks<M: Media>(
     Ok(())
 }
 
-/// Marks the block of an address clean. Refused, the cache was given up, and the volume is down.
+/// Marks the block of an address clean. On `Err` the cache was given up, and the volume is down.
 fn clean_block<M: Media>(disk: &mut CachedDisk, media: &mut M, lba: u64) -> Result<(), VolumeError>
     requires may { MayServe disk.old (M.state media.old).contents }
     requires back { disk.old.mode ≡ Back }

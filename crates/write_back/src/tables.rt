@@ -29,7 +29,7 @@ pub(crate) fn dirty_table_of(disk: &CachedDisk) -> Result<DirtyTable, AllocError
     table_of_addresses(disk.alloc, geometry, lbas.as_slice())
 }
 
-/// The same of a cache that was loaded, and of which no checkpoint is made yet.
+/// The same table for a cache that was loaded, before its checkpoint is made.
 pub(crate) fn loaded_table_of(disk: &LoadedDisk) -> Result<DirtyTable, AllocError>
     requires { (page : Place → Page) × IsLoadedFrom disk.now.options.geometry page disk.now.cache }
     ensures { IfOk result (IsTableOf disk.now.options.geometry (dirty_lbas (entries_of disk.now.cache.cache))) }
@@ -40,8 +40,8 @@ pub(crate) fn loaded_table_of(disk: &LoadedDisk) -> Result<DirtyTable, AllocErro
     table_of_addresses(disk.alloc, geometry, lbas.as_slice())
 }
 
-/// The table of the groups of these addresses, which ascend. The group of the highest address is in front, since
-/// the flash doesn't say which was written last.
+/// The table of the groups of these addresses, which ascend. The group of the highest address is in front, because the
+/// flash doesn't say which was written last.
 fn table_of_addresses(
     alloc: Global,
     geometry: &Geometry,

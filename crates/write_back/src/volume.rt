@@ -20,7 +20,7 @@ use ft_volume::{Idled, Mode, Options, Report, Volume, VolumeError};
 use op_log::OpenError;
 use std::alloc::Global;
 
-/// A cache over flash before a disk, which takes all writes and writes them back to the disk later.
+/// A cache over flash in front of a disk, which takes all writes and writes them back to the disk later.
 #[derive(Drop)]
 pub struct WriteBack {
     pub(crate) disk: CachedDisk,
@@ -29,7 +29,7 @@ pub struct WriteBack {
 }
 
 impl WriteBack {
-    /// Formats the flash and opens it, whatever it was before. The plain disk is then what the disk has.
+    /// Formats the flash and opens it, whatever it was before. The plain disk then has the disk's blocks.
     pub fn create<R: Rig>(
         alloc: Global,
         rig: &mut R,
@@ -49,9 +49,9 @@ impl WriteBack {
         }
     }
 
-    /// Opens the flash that a volume left, after a flush of the disk. Clean blocks that it holds are
-    /// those of the disk. Unless a device failed or power was lost, a refusal writes nothing beside that flush: all
-    /// memory is taken before the cache's checkpoint is made.
+    /// Opens the flash that a volume left, after a flush of the disk. Its clean blocks are the disk's blocks. On `Err`
+    /// it has written nothing but that flush, unless a device failed or power was lost. All memory is taken before the
+    /// cache's checkpoint is made.
     pub fn open<R: Rig>(
         alloc: Global,
         rig: &mut R,
@@ -76,8 +76,8 @@ impl WriteBack {
         }
     }
 
-    /// Opens the cache again where it was given up, and makes the table of its dirty groups anew: a write
-    /// that was lost may have noted its group.
+    /// Opens the cache again if it was given up, and makes the table of its dirty groups anew. A write that was lost
+    /// may have noted its group.
     fn bring_up<M: Media>(&mut self, media: &mut M) -> Result<(), VolumeError>
         requires { IsLeft self.old (M.state media.old).contents }
         ensures left { IsLeft self.new (M.state media.new).contents }
@@ -104,8 +104,8 @@ impl WriteBack {
         }
     }
 
-    /// Writes the last group of the table back where more are dirty than may stay so; else makes a checkpoint
-    /// where that is due.
+    /// Writes the last group of the table back, if more groups are dirty than may stay dirty. Else it makes a
+    /// checkpoint, if one is due.
     fn idle_up<M: Media>(&mut self, media: &mut M) -> Result<Idled, VolumeError>
         requires left { IsLeft self.old (M.state media.old).contents }
         requires up { kept.is_down self.old.disk ≡ false }

@@ -18,8 +18,8 @@ use ft_media::Media;
 use ft_volume::VolumeError;
 
 impl WriteBack {
-    /// Writes a block to the cache. Where its group would be one too many that the disk lacks, the last group of
-    /// the table is written back first.
+    /// Writes a block to the cache. If its group would be one too many that the disk lacks, the last group of the table
+    /// is written back first.
     pub(crate) fn write_up<M: Media>(
         &mut self,
         media: &mut M,
@@ -46,7 +46,7 @@ impl WriteBack {
         }
     }
 
-    /// Writes the last group of the table back where this one is not in it and it is full.
+    /// Writes the last group of the table back, if this group is not in it and the table is full.
     fn make_room<M: Media>(&mut self, media: &mut M, group: u64) -> Result<(), VolumeError>
         requires left { IsLeft self.old (M.state media.old).contents }
         requires up { kept.is_down self.old.disk ≡ false }
@@ -100,8 +100,8 @@ impl WriteBack {
         }
     }
 
-    /// Notes the group of an address, for which there is room, and writes the block to the cache, which has
-    /// taken the memory for it.
+    /// Notes the group of an address, which has room in the table, and writes the block to the cache, which has the
+    /// memory for it.
     fn put_dirty<M: Media>(
         &mut self,
         media: &mut M,

@@ -1,4 +1,4 @@
--- A block that is put on the disk, of an address that the cache doesn't hold.
+-- A block is put on the disk, at an address that the cache doesn't hold.
 use Rattle.std.proofs.Common.{◌≡◌, ◌⊎◌, ℕ, ◌<◌, true, false, List, [], Option, Some, None, Err, inl, inr, refl, sym, ◌∙◌, ap, subst}
 use Rattle.std.specs.FinMap.{get}
 use Rattle.std.specs.Option.{is_some}
@@ -40,7 +40,7 @@ IsOldOr old new lba block = (at : ℕ) (b : Block) → HasValue (new.disk at) b 
 abbrev pub IsPut : Contents → Contents → ℕ → Block → Type 0
 IsPut old new lba block = (at : ℕ) → new.disk at ≡ flushed (after_write old.disk lba block at)
 
--- the disk has it then
+-- the disk then has the block
 pub put_newest : (lba : ℕ) (block : Block) (old new : Contents) → IsPut old new lba block → block ≡ (new.disk lba).newest
 put_newest lba block old new put = sym (ap (λ (v : Values). v.newest) (put lba) ∙ ap (λ (v : Values). v.newest) (set_here old.disk lba (written (old.disk lba) block)))
 
@@ -49,7 +49,7 @@ put_newest lba block old new put = sym (ap (λ (v : Values). v.newest) (put lba)
 pub absent_of : (c : Ssc) (contents : Contents) (s : CacheList) → Holds c contents s → (a : ℕ) → is_some (get (entries_of c) a) ≡ false → get s a ≡ None
 absent_of c contents s holds a is = not_some (get s a) (sym (holds_held c contents s holds a) ∙ is)
 
--- it isn't held without what is buffered either
+-- the address isn't held without the buffered changes either
 undone_absent : (changes : List Record) (s : CacheList) (a : ℕ) → get s a ≡ None → get (undo (waiting changes) s) a ≡ None
 undone_absent changes s a none = get_undo (waiting changes) s a ∙ ap (undone_at (waiting changes) a) none ∙ undone_none (waiting changes) a (none_written changes)
 
@@ -98,7 +98,7 @@ module _ (lba : ℕ) (block : Block) (old new : Contents) (values : IsOldOr old 
         ]
       ])
 
-      -- a crash leaves the plain disk of before, or that with the block
+      -- a crash leaves the old plain disk, or the plain disk with the block
       images_now : StandForEither (ImageIs told) new d (set d lba block)
       images_now x now = elim (each x now lba inside) [
         | inl same ↦ inl (as_old x now same)
@@ -117,7 +117,7 @@ module _ (lba : ℕ) (block : Block) (old new : Contents) (values : IsOldOr old 
       stands_now : IsPut old new lba block → StandFor (ImageIs told) new (set d lba block)
       stands_now put x now = as_new x now (one_value (new.disk lba) (x.block lba) (ap (λ (v : Values). v.earlier) (put lba)) (now.blocks lba) ∙ sym (put_newest lba block old new put))
 
-      -- the disk was refused
+      -- the disk failed
       one_failed : WasOne {T = Unit {0}} (ImageIs told) (Writes lba block) new (Err DiskFault) d
       one_failed = record {
         kept = λ nothing. absurd (cc);
@@ -138,7 +138,7 @@ module _ (lba : ℕ) (block : Block) (old new : Contents) (values : IsOldOr old 
         memory = λ is. absurd (cc);
       }
 
--- ---- of a volume that is up
+-- ---- over a volume that is up
 
 module _ (v : CachedDisk) (old new : Contents) (left : IsLeft v old) (up : is_down v ≡ false) (lba : ℕ) (block : Block) (values : IsOldOr old new lba block) (none : is_some (get (entries_of v.cache) lba) ≡ false) (shape : new.shape ≡ old.shape) where
   is : IsHeld v old left.held

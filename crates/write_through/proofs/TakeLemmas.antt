@@ -26,7 +26,7 @@ use Rattle.cached_disk.proofs.ReadLemmas.{IsShown, ShowsSame, commit_shows, may_
 use Rattle.cached_disk.proofs.StepLemmas.{IsSameOver, not_dirty_beneath, over_same}
 
 module _ (s : CacheList) (lba : ℕ) where
-  -- what is left was there
+  -- a block that is left was there
   evicted_was : (a : ℕ) (h : Held) → get (evicted lba s) a ≡ Some h → get s a ≡ Some h
   evicted_was a h at = taken (a == lba) (get s a) h (sym (get_remove s lba a) ∙ at)
 
@@ -37,7 +37,7 @@ module _ (s : CacheList) (lba : ℕ) where
     | inr f ↦ ap (λ c. held_or (cond c None (get s a)) b) f
   ]
 
--- ---- what is held then
+-- ---- the addresses that are held after that
 
 module _ (old new : Ssc) (before after : Contents) (s : CacheList) (lba : ℕ) (holds_now : Holds new after (evicted lba s)) where
   pub evicted_held : Holds old before s → (a : ℕ) → is_some (get (entries_of new) a) ≡ cond (a == lba) false (is_some (get (entries_of old) a))
@@ -74,13 +74,13 @@ module _ (v : CachedDisk) (contents : Contents) (s : CacheList) (own : geometry_
     pub evicted_keeps : (a : ℕ) → IsDirtyIn s a → IsDirtyIn (evicted lba s) a
     evicted_keeps a dirty = absurd (none_dirty a dirty)
 
-    -- wherever it was cut
+    -- whenever it was cut
     pub evict_shows : (page : Place → Page) → FlashStandsForOne (geometry_of v.cache) page (undo (pending v.cache) s) s (evicted lba s) → IsShown v contents s page
     evict_shows page (AsUndone x) = commit_shows v contents s own is page (AsUndone x)
     evict_shows page (AsBefore x) = commit_shows v contents s own is page (AsBefore x)
     evict_shows page (AsAfter x) = record { list = evicted lba s; stands = subst (λ (g : Geometry). FlashStandsFor g page (evicted lba s)) own x; shows = evicted_shows }
 
-    -- nothing is buffered then, or what was before
+    -- nothing is buffered after that, or the old changes are
     pub evicted_may : (c : Ssc) → (IsHeldIn s lba → pending c ≡ []) → (get s lba ≡ None → c ≡ v.cache) → MayUndo v.mode (pending c)
     evicted_may c nothing same = by (get s lba) refl
       where

@@ -21,7 +21,7 @@ use Rattle.cached_disk.proofs.CallLemmas.{answered_write, refused_write}
 
 -- ---- steps one after the other
 
--- the same plain disk, as another volume tells itself
+-- the same plain disk, by what another volume says of itself
 pub told_as : (t u : Told) (contents : Contents) (d : PlainDisk) → u ≡ t → StandFor (ImageIs t) contents d → StandFor (ImageIs u) contents d
 told_as t u contents d same stand = subst (λ (k : Told). StandFor (ImageIs k) contents d) (sym same) stand
 
@@ -36,7 +36,7 @@ pub written_was : (lba : ℕ) (block : Block) (old new : VolumeState) (after : C
 written_was lba block old new after d (Ok tt) none none_new stand memory refused = answered_write lba block old new after d none none_new stand
 written_was lba block old new after d (Err e) none none_new stand memory refused = refused_write lba block old new after d none none_new stand e (λ is. memory (ap Err is)) refused
 
--- what is held, where the address was taken out before
+-- the addresses that are held, if the address was taken out before
 pub held_then : (told : Told) (lba : ℕ) (block : Block) (old mid new : ℕ → Bool) → ((a : ℕ) → mid a ≡ cond (a == lba) false (old a)) → HoldsAfter told (Writes lba block) mid new → HoldsAfter told (Writes lba block) old new
 held_then told lba block old mid new taken holds = record {
   own = holds.own;
@@ -54,7 +54,7 @@ held_then told lba block old mid new taken holds = record {
     was_held : (a : ℕ) → mid a ≡ true → old a ≡ true
     was_held a is = by (a == lba) (old a) (sym (taken a) ∙ is)
 
--- a read that caches an address holds what a write of it holds
+-- a read that caches an address holds the same addresses as a write of it
 pub held_as : (told : Told) (lba : ℕ) (b block : Block) (old new : ℕ → Bool) → HoldsAfter told (Reads lba b) old new → HoldsAfter told (Writes lba block) old new
 held_as told lba b block old new holds = record { own = holds.own; only = holds.only; stays = λ groups lie. holds.stays groups (record { few = lie.few; all = lie.all }) }
 
@@ -78,7 +78,7 @@ written_costs lba block old mid new before after r through none none_new told ta
     one : backs_written old.told.mode old.told lba old.table ≡ 1
     one = ap (λ (m : Mode). backs_written m old.told lba old.table) through
 
--- the disk was refused
+-- the disk failed
 pub unwritten_costs : {T : Type 0} (lba : ℕ) (block : Block) (old new : VolumeState) (before after : State) (e : VolumeError) → old.told.mode ≡ Through → after.counts.disk_writes ≤ before.counts.disk_writes + 1 → after.counts.disk_reads ≡ before.counts.disk_reads
     → (new.down ≡ false → StaysUp (Writes lba block) old new) → Costs {T = T} (Writes lba block) old new before after (Err e)
 unwritten_costs lba block old new before after e through most reads up = record {
@@ -90,7 +90,7 @@ unwritten_costs lba block old new before after e through most reads up = record 
   refused = up;
 }
 
--- the address was taken out, and no more was changed
+-- the address was taken out, and nothing else changed
 pub out_up : (lba : ℕ) (block : Block) (old mid : VolumeState) → old.table ≡ [] → mid.table ≡ [] → ((a : ℕ) → mid.held a ≡ cond (a == lba) false (old.held a)) → StaysUp (Writes lba block) old mid
 out_up lba block old mid none none_mid taken = record {
   same = λ no. absurd (false≢true (sym no));

@@ -1,4 +1,4 @@
--- What a volume is that writes through, and what it leaves on its media.
+-- A volume that writes through, and the media that it leaves.
 use Rattle.std.specs.Prelude.{◌≡◌, ◌<◌, ℕ, false, [], Result, IsErrOf}
 use Rattle.ft_base.specs.Contents.{Contents}
 use Rattle.ft_base.specs.declared.told.Mode.TheVariants.{Through}
@@ -10,11 +10,11 @@ use Rattle.cached_disk.specs.Kept.{state_in}
 use Rattle.cached_disk.specs.Kept as kept
 use Rattle.write_through.specs.declared.volume.WriteThrough.{WriteThrough}
 
--- what it is at this moment: no block waits to be written back
+-- the state at this moment: no block waits to be written back
 abbrev pub state_of : WriteThrough → VolumeState
 state_of v = state_in [] v.disk
 
--- the contents are those that the volume left, and its cache is one that writes through
+-- the contents are the ones that the volume left, and its cache writes through
 pub record IsLeft (v : WriteThrough) (contents : Contents) : Type 0 where
   pub disk : kept.IsLeft v.disk contents
   pub mode : v.disk.mode ≡ Through
@@ -25,7 +25,7 @@ pub record MayWrite (v : WriteThrough) (contents : Contents) (a : ℕ) : Type 0 
   pub up : kept.is_down v.disk ≡ false
   pub lba : a < v.disk.options.geometry.size
 
--- a step of a write: what it leaves, whatever it answers
+-- a step of a write, and the state that it leaves, whatever it answers
 pub record Steps (old new : WriteThrough) (before after : State) (result : Result (Unit {0}) VolumeError) : Type 0 where
   pub left : IsLeft new after.contents
   pub goes : Goes (state_of old) (state_of new) before after result

@@ -16,14 +16,14 @@ use ft_volume::{Idled, Mode, Options, Report, Volume, VolumeError};
 use op_log::OpenError;
 use std::alloc::Global;
 
-/// A cache over flash before a disk, where each write goes to the disk before it answers.
+/// A cache over flash in front of a disk. Each write goes to the disk before it answers.
 #[derive(Drop)]
 pub struct WriteThrough {
     pub(crate) disk: CachedDisk,
 }
 
 impl WriteThrough {
-    /// Formats the flash and opens it, whatever it was before. The plain disk is then what the disk has.
+    /// Formats the flash and opens it, whatever it was before. The plain disk then has the disk's blocks.
     pub fn create<R: Rig>(
         alloc: Global,
         rig: &mut R,
@@ -40,8 +40,8 @@ impl WriteThrough {
         }
     }
 
-    /// Opens the flash that a volume left, after a flush of the disk. The blocks that it holds are clean,
-    /// and those of the disk. Unless a device failed or power was lost, a refusal writes nothing beside that flush.
+    /// Opens the flash that a volume left, after a flush of the disk. All blocks that it holds are clean, and are the
+    /// disk's blocks. On `Err` it has written nothing but that flush, unless a device failed or power was lost.
     pub fn open<R: Rig>(
         alloc: Global,
         rig: &mut R,
@@ -60,7 +60,7 @@ impl WriteThrough {
         Ok(WriteThrough { disk })
     }
 
-    /// Opens the cache again where it was cut off or given up.
+    /// Opens the cache again if it was cut off or given up.
     fn bring_up<M: Media>(&mut self, media: &mut M) -> Result<(), VolumeError>
         requires { IsLeft self.old (M.state media.old).contents }
         ensures left { IsLeft self.new (M.state media.new).contents }

@@ -22,8 +22,8 @@ use ft_volume::VolumeError;
 impl WriteThrough {
     /// Writes a block to the disk, and then to the cache.
     ///
-    /// The cache lets its old block go before the disk has the new one: a crash would else leave the old
-    /// block in the cache, in front of the new one.
+    /// The cache drops its old block before the disk gets the new one. Otherwise a crash would leave the old block in
+    /// the cache, in front of the new one.
     pub(crate) fn write_up<M: Media>(
         &mut self,
         media: &mut M,
@@ -47,7 +47,7 @@ impl WriteThrough {
         self.put_in_cache(media, lba, block)
     }
 
-    /// Takes the memory of the write, while nothing is changed yet.
+    /// Takes the memory of the write, before anything is changed.
     fn reserve(&mut self) -> Result<(), VolumeError>
         ensures left { (contents : Contents) → IsLeft self.old contents → IsLeft self.new contents }
         ensures same { state_of self.new ≡ state_of self.old }
@@ -61,7 +61,7 @@ impl WriteThrough {
         Ok(())
     }
 
-    /// Lets the old block of an address go. It is the disk's own, so that reads answer what they did.
+    /// Drops the old block of an address from the cache. It is the disk's own block, so reads answer the same.
     fn take_out<M: Media>(&mut self, media: &mut M, lba: u64) -> Result<(), VolumeError>
         requires may { MayWrite self.old (M.state media.old).contents lba }
         ensures steps { Steps self.old self.new (M.state media.old) (M.state media.new) result }
@@ -79,8 +79,8 @@ impl WriteThrough {
         }
     }
 
-    /// Puts a block on the disk, of an address that the cache doesn't hold. Where the disk failed it may
-    /// have either block, so the volume is opened again, with a flush, before it is used.
+    /// Puts a block on the disk, at an address that the cache doesn't hold. If the disk failed, it may have either
+    /// block. So the volume is opened again, with a flush, before it is used.
     fn put_on_disk<M: Media>(
         &mut self,
         media: &mut M,
@@ -143,12 +143,12 @@ impl WriteThrough {
     }
 }
 
-/// Writes a block to the disk, and sees that it stays there.
+/// Writes a block to the disk, and flushes it.
 fn put_block<M: Media>(media: &mut M, lba: u64, block: &Block) -> Result<(), MediaError>
     requires { lba < (M.state media.old).contents.shape.size }
     ensures ok { OnOk result ((at : ℕ) → (M.state media.new).contents.disk at ≡ flushed
         (after_write (M.state media.old).contents.disk lba block.now at)) }
-    // Whatever is answered, a disk block has a value that it had, or the one that is written.
+    // Whatever the call answers, a disk block has a value that it had, or the value that is written.
     ensures values { (at : ℕ) (b : Block) → HasValue ((M.state media.new).contents.disk at) b
         → HasValue ((M.state media.old).contents.disk at) b ⊎ ((at ≡ lba) × (b ≡ block.now)) }
     ensures memory { IsErrOf result MediaError.OutOfMemory → M.state media.new ≡ M.state media.old }

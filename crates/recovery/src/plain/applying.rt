@@ -22,12 +22,12 @@ pub(crate) struct Part {
     region: u32,
     /// Their format and their era.
     stamp: Stamp,
-    /// How many there may be.
+    /// How many pages there may be.
     pages: u32,
 }
 
-/// Applies a checkpoint and its log to an empty map, up to the first damaged page, which is answered. Between
-/// the two the entries are counted: the seal is damaged where it says that there are more or fewer.
+/// Applies a checkpoint and its log to an empty map, up to the first damaged page, which is the answer. Between the two
+/// the entries are counted: the seal is damaged if it says another number.
 pub(crate) fn replay(
     pages: &[Page],
     geometry: &Geometry,
@@ -67,7 +67,7 @@ pub(crate) fn replay(
     Ok(damaged)
 }
 
-/// Whether a map has as many entries, and as many dirty ones, as totals say, where there are any.
+/// Whether a map has as many entries, and as many dirty ones, as the totals say, if there are any totals.
 fn are_totals(totals: &Option<Totals>, map: &Map) -> bool
     ensures { result ≡ loading.are_totals totals.now map.now.entries }
 {
@@ -77,8 +77,7 @@ fn are_totals(totals: &Option<Totals>, map: &Map) -> bool
     told.entries == map.held() && told.dirty == map.dirty_entries()
 }
 
-/// Applies pages in order, up to the first that is none of them, or the first damaged one, which is
-/// answered.
+/// Applies pages in order, up to the first page that is no such page, or the first damaged one, which is the answer.
 fn apply_part(
     pages: &[Page],
     geometry: &Geometry,
@@ -122,8 +121,8 @@ fn place_in(geometry: &Geometry, kind: PageKind, region: u32, i: u32) -> Place
     }
 }
 
-/// Applies the records of a page with this header, for a cache with `p` pages in an erase block. False where they are none, or one doesn't fit when
-/// its turn comes.
+/// Applies the records of a page with this header, for a cache with `p` pages in an erase block. It answers false if
+/// the page has no such records, or one doesn't fit when its turn comes.
 fn apply_page(page: &Page, header: &Header, p: u32, map: &mut Map) -> Result<bool, AllocError>
     requires { loading.said header_read page.now ≡ Some header.now }
     ensures geometry { map.new.geometry ≡ map.old.geometry }
@@ -140,7 +139,7 @@ fn apply_page(page: &Page, header: &Header, p: u32, map: &mut Map) -> Result<boo
     apply_records(&changes[..header.count as usize], map)
 }
 
-/// Applies records in order. False where one doesn't fit when its turn comes.
+/// Applies records in order. It answers false if one doesn't fit when its turn comes.
 fn apply_records(changes: &[Record], map: &mut Map) -> Result<bool, AllocError>
     ensures geometry { map.new.geometry ≡ map.old.geometry }
     ensures applied { IfOk result (λ fits. loading.after_all map.old.geometry changes.now

@@ -10,7 +10,7 @@ use record_codec::{read_page_header, read_seal};
 /// The format and the era of a page.
 #[derive(Clone, Copy, Debug, PartialEq, Eq)]
 pub(crate) struct Stamp {
-    /// How it is spelled, 1 or 2.
+    /// The format in which it is spelled, 1 or 2.
     pub(crate) format: u8,
     /// Its era, 0 to 2.
     pub(crate) era: u8,
@@ -54,14 +54,14 @@ fn has_stamp(stamp: Stamp, header: &Header) -> bool
     header.format == stamp.format && header.era == stamp.era
 }
 
-/// Whether a header is one of this kind and stamp, and says that its page is number `i` of its region.
+/// Whether a header is of this kind and stamp, and says that its page is number `i` of its region.
 fn is_page(header: &Header, kind: PageKind, stamp: Stamp, i: u32) -> bool
     ensures { result ≡ loading.is_page kind (plain.named stamp) i header.now }
 {
     header.kind == kind && has_stamp(stamp, header) && header.sequence == i
 }
 
-/// The header of a page of records, where it is one of this kind and stamp, at its own place.
+/// The header of a page of records, if the page is of this kind and stamp, at its own place.
 pub(crate) fn header_at(page: &Page, kind: PageKind, stamp: Stamp, i: u32) -> Option<Header>
     ensures value { result ≡ loading.header_at kind (plain.named stamp) i page.now }
     ensures few { IfSome result (λ h. h.count ≤ most_page_records) }
@@ -76,7 +76,7 @@ pub(crate) fn header_at(page: &Page, kind: PageKind, stamp: Stamp, i: u32) -> Op
     Some(header)
 }
 
-/// What a seal says that is one over `i` map pages of this stamp with so many records.
+/// The contents of a seal, if the page is a seal over `i` map pages of this stamp with `count` records.
 pub(crate) fn seal_at(
     page: &Page,
     stamp: Stamp,

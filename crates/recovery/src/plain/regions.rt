@@ -11,11 +11,11 @@ use ft_base::{Geometry, Page};
 pub(crate) struct Sealed {
     /// Its format and its era.
     pub(crate) stamp: Stamp,
-    /// Its map pages.
+    /// How many map pages it has.
     pub(crate) pages: u32,
     /// The numbers of its seal.
     pub(crate) seal: Seal,
-    /// Its totals, where its seal has any.
+    /// Its totals, if its seal has any.
     pub(crate) totals: Option<Totals>,
 }
 
@@ -28,7 +28,7 @@ pub(crate) fn newest(pages: &[Page], geometry: &Geometry) -> Option<(u32, Sealed
     chosen(first, second)
 }
 
-/// The later of two checkpoints, or the one that there is.
+/// The later of two checkpoints, or the only one.
 fn chosen(first: Option<Sealed>, second: Option<Sealed>) -> Option<(u32, Sealed)>
     ensures { option_map complete_in result ≡ loading.chosen (option_map complete_of first) (option_map complete_of second) }
 {
@@ -44,7 +44,7 @@ fn chosen(first: Option<Sealed>, second: Option<Sealed>) -> Option<(u32, Sealed)
     Some((0, zero))
 }
 
-/// The checkpoint of a region, where it is complete.
+/// The checkpoint of a region, if it is complete.
 fn checkpoint_in(pages: &[Page], geometry: &Geometry, region: u32) -> Option<Sealed>
     requires { region < 2 }
     ensures { option_map complete_of result ≡ loading.checkpoint_in

@@ -3,7 +3,7 @@ use Rattle.op_log.specs.Log.{FitsOn}
 use Rattle.checkpoint.specs.Current.{AreWhole, IsCommitted}
 use Rattle.log_rows.proofs.commits.put_often.Given as goal
 
--- what a put asks for holds after it
+-- the preconditions of a put still hold after it
 abbrev pub invariant-puts : goal.invariant-puts
 invariant-puts g l = record {
   shape : FitsOn l.cache.log.geometry (g.R.Media.state l.rig).contents.shape;

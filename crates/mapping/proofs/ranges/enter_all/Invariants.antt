@@ -2,6 +2,6 @@ use Rattle.std.proofs.Common.{◌-◌}
 use Rattle.mapping.specs.Index.{IsIndex, without_range}
 use Rattle.mapping.proofs.ranges.enter_all.Given as goal
 
--- those so far have come, the last first
+-- the entries so far are added, the last first
 abbrev pub invariant-loop-done : goal.invariant-loop-done
 invariant-loop-done l = IsIndex l.geometry (without_range l.held.entries l.first (l.count - l.done)) l.index

@@ -1,6 +1,6 @@
 use Rattle.mapping.specs.Index.{IsIndex, without_range}
 use Rattle.mapping.proofs.ranges.leave_all.Given as goal
 
--- those so far are gone
+-- the entries so far are removed
 abbrev pub invariant-loop-done : goal.invariant-loop-done
 invariant-loop-done l = IsIndex l.geometry (without_range l.held.entries l.first l.done) l.index

@@ -2,7 +2,7 @@ use Rattle.std.proofs.Common.{◌≡◌, ℕ, suc, ◌+◌, ◌*◌, ◌%◌, �
 use Rattle.std.proofs.Math.Nat.{mod-le, pow-suc, pow-le-pow_right}
 use Rattle.mapping.proofs.sets.chosen.Goals as goal
 
--- a set of pages before this one, and this one, are no more than a word
+-- a set of pages before this one, with this one, fits a word
 one_more : (set page p n limit : ℕ) → set < 2 ^ page → page < p → p ≤ n → 2 ^ n ≡ limit → set + 1 * 2 ^ page % limit < limit
 one_more set page p n limit below within few is =
     let least : 1 * 2 ^ page % limit ≤ 1 * 2 ^ page = mod-le (1 * 2 ^ page) limit in

@@ -4,7 +4,7 @@ use Rattle.merge_engine.proofs.GiveBackLemmas.{FewerOrHeld, GaveBack}
 use Rattle.merge_engine.proofs.HeldLogsLemmas.{HeldSoFar}
 use Rattle.merge_engine.proofs.appending.free_unheld.Given as goal
 
--- blocks of the pool alone went out of use, and something stands in each that was passed by
+-- only blocks of the pool went out of use, and some entry stands in each block that was passed
 abbrev pub invariant-loop-i : goal.invariant-loop-i
 invariant-loop-i l = record {
   gave : GaveBack l.fn.cache l.cache;

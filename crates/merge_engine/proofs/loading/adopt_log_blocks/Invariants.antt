@@ -3,7 +3,7 @@ use Rattle.merge_engine.specs.Loaded.{AreAscending}
 use Rattle.merge_engine.proofs.LoadedLemmas.{AdoptedBelow}
 use Rattle.merge_engine.proofs.loading.adopt_log_blocks.Given as goal
 
--- the list of log blocks alone changed, and it has those so far, in the order of their numbers
+-- only the list of log blocks changed, and it has the blocks so far, in the order of their numbers
 abbrev pub invariant-loop-block : goal.invariant-loop-block
 invariant-loop-block l = record {
   parts : l.parts ≡ record l.initial.parts { log_blocks = l.parts.log_blocks };

@@ -3,7 +3,7 @@ use Rattle.merge_engine.specs.Agreement.{AreOfOne}
 use Rattle.merge_engine.specs.Loaded.{RolesSoFar}
 use Rattle.merge_engine.proofs.loading.set_roles.Given as goal
 
--- the pool alone changed, and it uses the blocks of the entries so far as they say
+-- only the pool changed, and it gives the blocks of the entries so far the roles that these say
 abbrev pub invariant-loop-i : goal.invariant-loop-i
 invariant-loop-i l = record {
   parts : l.parts ≡ record l.initial.parts { pool = l.parts.pool };

@@ -22,7 +22,7 @@ holds_beside c a b s k =
       few = k.few;
     }
 
--- the cache looks at the flash alone
+-- the cache depends only on the flash
 up_beside : (c : Ssc) (a b : Contents) → b.shape ≡ a.shape → b.flash ≡ a.flash → IsUp c a → IsUp c b
 up_beside c a b shape flash up =
     subst (λ (k : Contents). IsUp c k) (ap₂ (λ (s : Shape) (f : Flash). record b { shape = s; flash = f }) (sym shape) (sym flash))

@@ -112,7 +112,7 @@ returns-in-Ok-true-clause-serves g c =
       within = search rules;
     }
 
--- the flash was refused
+-- the flash failed
 
 pub returns-in-Err-clause-serves : goal.returns-in-Err-clause-serves
 returns-in-Err-clause-serves g c =

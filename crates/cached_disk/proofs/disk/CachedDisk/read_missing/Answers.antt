@@ -25,7 +25,7 @@ use Rattle.cached_disk.proofs.ReadLemmas.{IsReserved, absent_held, cut_left, cut
 use Rattle.cached_disk.proofs.RefusedLemmas.{goes_refused}
 use Rattle.cached_disk.proofs.disk.CachedDisk.read_missing.Goals as goal
 
--- the memory wasn't there
+-- there was no memory
 
 pub returns-then-is_err-clause-serves : goal.returns-then-is_err-clause-serves
 returns-then-is_err-clause-serves g c =
@@ -51,7 +51,7 @@ returns-then-is_err-clause-costs g c = λ order.
     refused_costs (Reads c.args.lba c.args.block.now) (state_in order v) (state_in order u) (Unit {0}) before before volume.OutOfMemory
     (same_up (Reads c.args.lba c.args.block.now) (state_in order v) (state_in order u) (reserved_tells order v k c.reserve.ensures.parts c.reserve.ensures.entries c.reserve.ensures.stopped)) (omega arith) refl
 
--- the disk was refused
+-- the disk failed
 
 pub returns-in-Err-clause-costs : goal.returns-in-Err-clause-costs
 returns-in-Err-clause-costs g c = λ order.
@@ -150,7 +150,7 @@ returns-in-Ok-clause-costs g c = λ order.
     (put_held u put mid.contents after.contents s by c.args.lba c.read_block.new.block absent newest h c.read_block.new.block))
     c.in_default.ensures.counts c.write_clean.ensures.runs.drives.disk_reads c.write_clean.ensures.runs.drives.disk_writes
 
--- it was refused or cut
+-- the write failed or was cut
 
 pub returns-in-Err-write_clean-clause-serves : goal.returns-in-Err-write_clean-clause-serves
 returns-in-Err-write_clean-clause-serves g c =

@@ -15,7 +15,7 @@ use Rattle.cached_disk.proofs.HeldLemmas.{is_up, left_same}
 use Rattle.cached_disk.proofs.ReportLemmas.{asks_read, costs_at, costs_read, costs_unread, flushed_stands, goes_at, goes_both, goes_read, goes_unread, loads_left, not_disk, report_is}
 use Rattle.cached_disk.proofs.disk.CachedDisk.report.Goals as goal
 
--- the flush was refused
+-- the flush failed
 
 pub returns-in-Err-clause-serves : goal.returns-in-Err-clause-serves
 returns-in-Err-clause-serves g c =

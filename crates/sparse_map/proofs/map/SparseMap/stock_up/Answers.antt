@@ -191,7 +191,7 @@ fit_touched-requires-clause-counted g c =
     let before = ap (λ us. loose_of m.touched (sizes_of us)) c.as_mut_slice.ensures.value in
     omega (arith, before, (bounds _ _ c.self.invariant.bound))
 
--- ---- no more than 65 places a list, and no more blank lists than lists
+-- ---- at most 65 places a list, and at most as many blank lists as lists
 pub most_beyond-requires : goal.most_beyond-requires
 most_beyond-requires g c =
     let m = c.self.inside in

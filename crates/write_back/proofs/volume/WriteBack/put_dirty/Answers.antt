@@ -64,7 +64,7 @@ returns-in-Ok-clause-held g c =
     put_holds v c.args.lba c.write_dirty.new.self c.touch.new.self noted old (g.M.Media.state c.write_dirty.new.media) left c.requires.may.up c.args.block.now c.write_dirty.ensures.runs.geometry c.write_dirty.ensures.runs.drives
     (c.in-Ok.ensures.done left.disk.held (is_held v old.contents left c.requires.may.up).holds)
 
--- refused or cut
+-- the write failed or was cut
 
 pub returns-in-Err-clause-steps : goal.returns-in-Err-clause-steps
 returns-in-Err-clause-steps g c =

@@ -121,7 +121,7 @@ returns-in-Ok-clause-programs g c =
     let v = c.args.self.now in
     programs_then (g.M.Media.state c.args.media.now) (g.M.Media.state c.make_room.new.media) (g.M.Media.state c.put_dirty.new.media) c.put_dirty.result c.in-Ok.ensures.steps.goes.passes (programs_one (g.M.Media.state c.make_room.new.media) (g.M.Media.state c.put_dirty.new.media) c.put_dirty.result c.put_dirty.ensures.costs.programs)
 
--- refused before the cache was asked
+-- the write failed before the cache was asked
 
 pub returns-in-Err-clause-was : goal.returns-in-Err-clause-was
 returns-in-Err-clause-was g c = λ base stand.

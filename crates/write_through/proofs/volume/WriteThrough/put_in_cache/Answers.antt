@@ -70,7 +70,7 @@ returns-in-Ok-clause-held g c =
     let absent = absent_of v.cache before.contents s holds lba c.requires.absent in
     held_as (told_of v) lba block block (λ a. is_some (get (entries_of v.cache) a)) (λ a. is_some (get (entries_of k) a)) (put_held v k before.contents after.contents s by lba block absent c.requires.newest (c.in-Ok.ensures.done s holds) block)
 
--- refused or cut
+-- the write failed or was cut
 
 pub returns-in-Err-clause-steps : goal.returns-in-Err-clause-steps
 returns-in-Err-clause-steps g c =

@@ -91,7 +91,7 @@ returns-in-Err-PowerLost-clause-was g c = λ d stand.
     put_lost v old new c.requires.may.left.disk c.requires.may.up c.args.lba c.args.block.now to.values c.requires.absent to.passes.shape to.flash.page c.requires.may.lba d stand (state_of c.args.self.now) (state_of w) refl refl refl refl
     (to.crash (ap lost (c.in-Err-PowerLost.is ∙ ap Err c.in-Err-PowerLost.field-0-is)))
 
--- memory was refused, and nothing was changed
+-- there was no memory, and nothing has changed
 
 pub returns-in-Err-OutOfMemory-clause-steps : goal.returns-in-Err-OutOfMemory-clause-steps
 returns-in-Err-OutOfMemory-clause-steps g c =

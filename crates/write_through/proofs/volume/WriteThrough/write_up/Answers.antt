@@ -38,7 +38,7 @@ returns-in_err-reserve-clause-was g c = λ d stand.
     subst (λ (r : Result (Unit {0}) VolumeError). WasDone ImageIs call v v1 old r d) (sym is)
     (refused_same call v v1 old d refl refl (told_as v.told v1.told old d (ap (λ (s : VolumeState). s.told) c.reserve.ensures.same) stand) c.in_err-reserve.field-0.0)
 
--- the cache was refused
+-- the cache failed
 
 pub returns-in_err-take_out-clause-was : goal.returns-in_err-take_out-clause-was
 returns-in_err-take_out-clause-was g c = λ d stand.
@@ -53,7 +53,7 @@ returns-in_err-take_out-clause-was g c = λ d stand.
     subst (λ (r : Result (Unit {0}) VolumeError). WasDone ImageIs call v v2 new r d) (sym is)
     (refused_same call v v2 new d refl refl (told_as v1.told v2.told new d c.take_out.ensures.steps.goes.told (c.take_out.ensures.stands d before)) c.in_err-take_out.field-0.0)
 
--- the disk was refused
+-- the disk failed
 
 pub returns-in_err-put_on_disk-clause-was : goal.returns-in_err-put_on_disk-clause-was
 returns-in_err-put_on_disk-clause-was g c = λ d stand.
