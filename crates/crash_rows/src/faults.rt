@@ -17,13 +17,13 @@ const CALLS: u64 = 150;
 
 /// The device that fails.
 #[derive(Clone, Copy, PartialEq, Eq)]
-enum Device {
+pub(crate) enum Device {
     Flash,
     Disk,
 }
 
 /// The run in which this call of the device fails.
-fn without_call(
+pub(crate) fn without_call(
     alloc: Global,
     shape: &Shape,
     trace: &[u8],
@@ -40,7 +40,7 @@ fn without_call(
 }
 
 /// Whether the run ended with this status, after the first lines of the whole text.
-fn ends_within(outcome: &Outcome, status: u8, whole: &[u8]) -> bool {
+pub(crate) fn ends_within(outcome: &Outcome, status: u8, whole: &[u8]) -> bool {
     let text = outcome.text.as_slice();
     let in_lines = text.is_empty() || text.ends_with(b"\n");
     outcome.status == status && in_lines && whole.starts_with(text)

@@ -1,6 +1,6 @@
 //! Worked examples of the whole program over small traces. Many of them are random, with power cuts, over volumes of
-//! both modes. In one trace each call of flash and disk fails in turn. The others are sweeps. Each text is the text
-//! that the plain programs compute.
+//! both modes. In some traces each call of flash and disk fails in turn, and what is left of the media is opened. The
+//! others are sweeps. Each text is the text that the plain programs compute.
 //!
 //! No layer stands on this crate; it has only tests.
 #![tactic(auto)]
@@ -9,6 +9,8 @@
 mod cuts;
 #[cfg(test)]
 mod faults;
+#[cfg(test)]
+mod left;
 #[cfg(test)]
 mod random;
 #[cfg(test)]

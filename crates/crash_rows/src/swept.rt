@@ -172,7 +172,7 @@ fn a_block_that_is_written_again_is_swept_in_all_ways(rt: HostRuntime) -> Result
 }
 
 /// A trace of 6 lines over the first 16 blocks: writes and reads of up to 3 blocks, flushes and idle steps.
-fn trace_of(alloc: Global, words: &mut Lcg64Xsh32) -> Result<Vec<u8>, Fail> {
+pub(crate) fn trace_of(alloc: Global, words: &mut Lcg64Xsh32) -> Result<Vec<u8>, Fail> {
     let mut trace = Vec::new(alloc);
     for tag in 1..=6 {
         let kind = words.next_word() % 10;
