@@ -9,3 +9,4 @@ pub mod SettingLemmas
 pub mod FoundLemmas
 pub mod NumberLemmas
 pub mod ValueLemmas
+pub mod DeviceLemmas

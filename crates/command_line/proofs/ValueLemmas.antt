@@ -196,7 +196,7 @@ pub first_word : (word text name : Text) (equal : Bool) → text ≡ word → eq
 first_word word text name equal same is holds = sym same ∙ (bytes_eq-Decides text name).0 (sym is ∙ holds)
 
 -- words with different bytes
-differ : (one other : Text) → bytes_eq one other ≡ false → one ≡ other → ⊥
+pub differ : (one other : Text) → bytes_eq one other ≡ false → one ≡ other → ⊥
 differ one other not is = both_ways (bytes_eq one other) not ((bytes_eq-Decides one other).1 is)
 
 pub apart : (words : List Text) (o other : Told) (number count : ℕ) → IsCommand words o → IsGen words other number count → ⊥
@@ -220,7 +220,7 @@ same_form : (word : Option Text) (f g : TraceForm) → IsGiven form_word Lines w
 same_form None f g given other = given ∙ sym other
 same_form (Some word) f g given other = same_form_word f g (sym given ∙ other)
 
-form_along : (value other : Text → Option Text) (f : TraceForm) → ((name : Text) → value name ≡ other name) → IsGiven form_word Lines (value (codes "form")) f → IsGiven form_word Lines (other (codes "form")) f
+pub form_along : (value other : Text → Option Text) (f : TraceForm) → ((name : Text) → value name ≡ other name) → IsGiven form_word Lines (value (codes "form")) f → IsGiven form_word Lines (other (codes "form")) f
 form_along value other f same = subst (λ (word : Option Text). IsGiven form_word Lines word f) (same (codes "form"))
 
 pub same_read : (word : Text) (words : List Text) (o other : Told) (f g : TraceForm) → IsReadOf word words o f → IsReadOf word words other g → (o ≡ other) × (f ≡ g)
@@ -289,7 +289,7 @@ same_outcome : (word : Option Text) (x y : Outcome) → IsGiven outcome_word Tor
 same_outcome None x y given other = given ∙ sym other
 same_outcome (Some word) x y given other = same_outcome_word x y (sym given ∙ other)
 
-left_along : (value other : Text → Option Text) (x : Outcome) → ((name : Text) → value name ≡ other name) → IsGiven outcome_word Torn (value (codes "outcome")) x → IsGiven outcome_word Torn (other (codes "outcome")) x
+pub left_along : (value other : Text → Option Text) (x : Outcome) → ((name : Text) → value name ≡ other name) → IsGiven outcome_word Torn (value (codes "outcome")) x → IsGiven outcome_word Torn (other (codes "outcome")) x
 left_along value other x same = subst (λ (word : Option Text). IsGiven outcome_word Torn word x) (same (codes "outcome"))
 
 pub same_sweep : (words : List Text) (o other : Told) (x y : Outcome) → IsSweep words o x → IsSweep words other y → (o ≡ other) × (x ≡ y)

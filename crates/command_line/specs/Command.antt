@@ -10,6 +10,11 @@ use Rattle.ft_base.specs.declared.told.Mode.{Mode}
 use Rattle.ft_base.specs.declared.told.Mode.TheVariants.{Back, Through}
 use Rattle.command_line.specs.declared.command.TraceForm.{TraceForm}
 use Rattle.command_line.specs.declared.command.TraceForm.TheVariants.{Lines, Msr}
+use Rattle.command_line.specs.declared.devices.Devices.{Devices}
+use Rattle.command_line.specs.declared.devices.FlashKind.{FlashKind}
+use Rattle.command_line.specs.declared.devices.FlashKind.TheVariants.{Plain, Raw}
+use Rattle.command_line.specs.declared.devices.Parity.{Parity}
+use Rattle.command_line.specs.declared.devices.Parity.TheVariants.{Off, On}
 
 -- the bytes of a word, or of a part of it
 abbrev pub Text : Type 0
@@ -19,7 +24,8 @@ Text = List ℕ
 
 -- the options of a run
 abbrev pub option_names : List Text
-option_names = codes "mode" ∷ codes "pages" ∷ codes "data" ∷ codes "log" ∷ codes "journal" ∷ codes "size" ∷ codes "dirty" ∷ []
+option_names = codes "mode" ∷ codes "pages" ∷ codes "data" ∷ codes "log" ∷ codes "journal" ∷ codes "size" ∷ codes "dirty"
+    ∷ codes "flash" ∷ codes "parity" ∷ []
 
 -- the options of a replay
 abbrev pub replay_names : List Text
@@ -32,6 +38,10 @@ gen_names = option_names ++ codes "number" ∷ codes "count" ∷ []
 -- the options of a sweep
 abbrev pub sweep_names : List Text
 sweep_names = option_names ++ codes "outcome" ∷ []
+
+-- the options of all commands
+abbrev pub every_name : List Text
+every_name = option_names ++ codes "form" ∷ codes "number" ∷ codes "count" ∷ codes "outcome" ∷ []
 
 -- there is an option of this name
 abbrev pub is_known : Text → List Text → Bool
@@ -97,6 +107,21 @@ abbrev pub form_word : TraceForm → Text
 form_word Lines = codes "lines"
 form_word Msr = codes "msr"
 
+-- how a kind of flash is spelled
+abbrev pub flash_word : FlashKind → Text
+flash_word Plain = codes "plain"
+flash_word Raw = codes "raw"
+
+-- how it is spelled whether there is parity
+abbrev pub parity_word : Parity → Text
+parity_word Off = codes "off"
+parity_word On = codes "on"
+
+-- what the values say of the devices beneath the volume
+pub record SayDevices (value : Text → Option Text) (d : Devices) : Type 0 where
+  pub flash : IsGiven flash_word Plain (value (codes "flash")) d.flash
+  pub parity : IsGiven parity_word Off (value (codes "parity")) d.parity
+
 -- the numbers of the cache, each spelled by its decimal digits; a geometry has them in their ranges
 pub record AreNumbers (value : Text → Option Text) (g : Geometry) : Type 0 where
   pub pages : IsGiven decimal 64 (value (codes "pages")) g.p
@@ -111,12 +136,14 @@ pub record IsDirty (value : Text → Option Text) (data_blocks dirty : ℕ) : Ty
   pub low : 1 ≤ dirty
   pub high : dirty ≤ data_blocks
 
--- what the values say of the volume; each write is on the media when it answers
+-- what the values say of the volume, over some devices; each write is on the media when it answers
 pub record Say (value : Text → Option Text) (o : Told) : Type 0 where
   pub mode : IsGiven mode_word Back (value (codes "mode")) o.mode
   pub numbers : AreNumbers value o.geometry
   pub dirty : IsDirty value o.geometry.c o.dirty
   pub ack : o.ack ≡ Write
+  pub devices : Devices
+  pub over : SayDevices value devices
 
 -- how many lines a made trace has: one to a million
 pub record IsCount (value : Text → Option Text) (count : ℕ) : Type 0 where
@@ -180,3 +207,14 @@ pub record IsSweep (words : List Text) (o : Told) (outcome : Outcome) : Type 0 w
   pub spelled : Spells sweep_names others settings
   pub says : Say (value_in settings) o
   pub leaves : IsGiven outcome_word Torn (value_in settings (codes "outcome")) outcome
+
+-- ---- over which devices
+
+-- a word, and then options that say these devices, whatever the command
+pub record IsOver (words : List Text) (d : Devices) : Type 0 where
+  pub word : Text
+  pub others : List Text
+  pub first : words ≡ word ∷ others
+  pub settings : List Setting
+  pub spelled : Spells every_name others settings
+  pub says : SayDevices (value_in settings) d

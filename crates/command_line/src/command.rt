@@ -3,10 +3,11 @@ ghost use Rattle.std.specs.String.{string_bytes};
 ghost use Rattle.ft_base.specs.Told.{Told};
 ghost use Rattle.ft_base.specs.declared.power.Outcome.{Outcome};
 ghost use Rattle.ft_volume.specs.Volume.{told_for};
-ghost use Rattle.command_line.specs.Command.{IsCommand, IsCost, IsGen, IsInspect, IsReadOf, IsRunOf, IsSweep, Text};
-ghost use Rattle.command_line.specs.Spoken.{AreWordsOf};
+ghost use Rattle.command_line.specs.Command.{IsCommand, IsCost, IsGen, IsInspect, IsOver, IsReadOf, IsRunOf, IsSweep, Text};
+ghost use Rattle.command_line.specs.Spoken.{AreWordsFor};
 ghost use Rattle.command_line.specs.declared.command.TraceForm.{TraceForm};
 
+use crate::devices::{Devices, Spoken};
 use crate::matching::{gen_options, replay_options, run_options, sweep_options};
 use crate::settings::{form_of, made_of, outcome_of, volume_of};
 use ft_base::Outcome;
@@ -72,7 +73,8 @@ pub enum Command {
     },
 }
 
-/// The command that the words after the program's name say, or None where they are none.
+/// The command that the words after the program's name say, and the devices that it runs over; or None where they are no
+/// command.
 ///
 /// The first word is `replay`, `gen`, `inspect`, `cost` or `sweep`. After it come options in any order, each at most once, as
 /// `--name value` or `--name=value`. A value in a word by itself doesn't begin with `-`. A number is `0`, or
@@ -88,12 +90,14 @@ pub enum Command {
 /// | `--journal` | erase blocks of a log region, 1 to 16 | 2 |
 /// | `--size` | blocks of the volume, 1 to 2^40 | 1,048,576 |
 /// | `--dirty` | dirty groups that an idle step leaves alone, 1 to the data blocks | half of these, rounded up |
+/// | `--flash` | whether flash tells which of its pages are torn, `plain`, or gives their bytes alone, `raw` | `plain` |
+/// | `--parity` | whether an erase block has a page of parity: `off` or `on` | `off` |
 /// | `--form`, of `replay` and `cost` alone | form of the trace's lines: `lines` or `msr` | `lines` |
 /// | `--number`, of `gen` alone | which made trace, 0 to 2^64 - 1 | 1 |
 /// | `--count`, of `gen` alone | lines of the made trace, 1 to 1,000,000 | 20,000 |
 /// | `--outcome`, of `sweep` alone | what a power cut leaves: `blank`, `whole`, `torn` or `mixed` | `torn` |
-pub fn command_of(alloc: Global, words: &[String]) -> Result<Option<Command>, AllocError>
-    ensures command { IfOk result (λ c. IfSome c (AreWordsOf (map string_bytes words.now))) }
+pub fn command_of(alloc: Global, words: &[String]) -> Result<Option<Spoken>, AllocError>
+    ensures command { IfOk result (λ c. IfSome c (AreWordsFor (map string_bytes words.now))) }
     ensures none { IfOk result (λ c. IfNone c ((o : Told) → IsCommand (map string_bytes words.now) o → ⊥)) }
     ensures none_inspected { IfOk result (λ c. IfNone c ((o : Told) → IsInspect (map string_bytes words.now) o → ⊥)) }
     ensures none_costed { IfOk result (λ c. IfNone c ((o : Told) (form : TraceForm) → IsCost (map string_bytes words.now) o form → ⊥)) }
@@ -122,10 +126,10 @@ pub fn command_of(alloc: Global, words: &[String]) -> Result<Option<Command>, Al
     Ok(None)
 }
 
-/// The mode and the options that these words after the word of a command say, or None where they say none.
-fn run_of(alloc: Global, others: &[String]) -> Result<Option<(Mode, Options)>, AllocError>
+/// The mode, the options and the devices that these words after the word of a command say, or None where they say none.
+fn run_of(alloc: Global, others: &[String]) -> Result<Option<(Mode, Options, Devices)>, AllocError>
     ensures some { IfOk result (λ it. IfSome it (λ it. (word : Text)
-        → IsRunOf word (word ∷ map string_bytes others.now) (told_for it.0 it.1))) }
+        → IsRunOf word (word ∷ map string_bytes others.now) (told_for it.0 it.1) × IsOver (word ∷ map string_bytes others.now) it.2)) }
     ensures none { IfOk result (λ it. IfNone it ((word : Text) (o : Told) → IsRunOf word (word ∷ map string_bytes others.now) o → ⊥)) }
 {
     let Some(matches) = run_options(alloc, others)? else {
@@ -137,111 +141,124 @@ fn run_of(alloc: Global, others: &[String]) -> Result<Option<(Mode, Options)>, A
     Ok(Some(said))
 }
 
-/// The mode, the options and the form that these words after the word of a command say, or None if they say none.
+/// The mode, the options, the devices and the form that these words after the word of a command say, or None if they say
+/// none.
 fn read_of(
     alloc: Global,
     others: &[String],
-) -> Result<Option<(Mode, Options, TraceForm)>, AllocError>
+) -> Result<Option<(Mode, Options, Devices, TraceForm)>, AllocError>
     ensures some { IfOk result (λ it. IfSome it (λ it. (word : Text)
-        → IsReadOf word (word ∷ map string_bytes others.now) (told_for it.0 it.1) it.2)) }
+        → IsReadOf word (word ∷ map string_bytes others.now) (told_for it.0 it.1) it.3
+        × IsOver (word ∷ map string_bytes others.now) it.2)) }
     ensures none { IfOk result (λ it. IfNone it ((word : Text) (o : Told) (form : TraceForm)
         → IsReadOf word (word ∷ map string_bytes others.now) o form → ⊥)) }
 {
     let Some(matches) = replay_options(alloc, others)? else {
         return Ok(None);
     };
-    let Some((mode, options)) = volume_of(&matches) else {
+    let Some((mode, options, devices)) = volume_of(&matches) else {
         return Ok(None);
     };
     let Some(form) = form_of(&matches) else {
         return Ok(None);
     };
-    Ok(Some((mode, options, form)))
+    Ok(Some((mode, options, devices, form)))
 }
 
 /// The command that `replay` and these words after it say, or None where they are none.
-fn replay_command(alloc: Global, others: &[String]) -> Result<Option<Command>, AllocError>
-    ensures command { IfOk result (λ c. IfSome c (AreWordsOf (codes "replay" ∷ map string_bytes others.now))) }
+fn replay_command(alloc: Global, others: &[String]) -> Result<Option<Spoken>, AllocError>
+    ensures command { IfOk result (λ c. IfSome c (AreWordsFor (codes "replay" ∷ map string_bytes others.now))) }
     ensures none { IfOk result (λ c. IfNone c ((o : Told) → IsCommand (codes "replay" ∷ map string_bytes others.now) o → ⊥)) }
 {
     match read_of(alloc, others)? {
-        Some((mode, options, form)) => Ok(Some(Command::Replay {
-            mode,
-            options,
-            form,
+        Some((mode, options, devices, form)) => Ok(Some(Spoken {
+            command: Command::Replay {
+                mode,
+                options,
+                form,
+            },
+            devices,
         })),
         None => Ok(None),
     }
 }
 
 /// The command that `cost` and these words after it say, or None if they are none.
-fn cost_command(alloc: Global, others: &[String]) -> Result<Option<Command>, AllocError>
-    ensures command { IfOk result (λ c. IfSome c (AreWordsOf (codes "cost" ∷ map string_bytes others.now))) }
+fn cost_command(alloc: Global, others: &[String]) -> Result<Option<Spoken>, AllocError>
+    ensures command { IfOk result (λ c. IfSome c (AreWordsFor (codes "cost" ∷ map string_bytes others.now))) }
     ensures none { IfOk result (λ c. IfNone c ((o : Told) (form : TraceForm)
         → IsCost (codes "cost" ∷ map string_bytes others.now) o form → ⊥)) }
 {
     match read_of(alloc, others)? {
-        Some((mode, options, form)) => Ok(Some(Command::Cost {
-            mode,
-            options,
-            form,
+        Some((mode, options, devices, form)) => Ok(Some(Spoken {
+            command: Command::Cost {
+                mode,
+                options,
+                form,
+            },
+            devices,
         })),
         None => Ok(None),
     }
 }
 
 /// The command that `inspect` and these words after it say, or None where they are none.
-fn inspect_command(alloc: Global, others: &[String]) -> Result<Option<Command>, AllocError>
-    ensures command { IfOk result (λ c. IfSome c (AreWordsOf (codes "inspect" ∷ map string_bytes others.now))) }
+fn inspect_command(alloc: Global, others: &[String]) -> Result<Option<Spoken>, AllocError>
+    ensures command { IfOk result (λ c. IfSome c (AreWordsFor (codes "inspect" ∷ map string_bytes others.now))) }
     ensures none { IfOk result (λ c. IfNone c ((o : Told) → IsInspect (codes "inspect" ∷ map string_bytes others.now) o → ⊥)) }
 {
     match run_of(alloc, others)? {
-        Some((mode, options)) => Ok(Some(Command::Inspect { mode, options })),
+        Some((mode, options, devices)) => Ok(Some(Spoken {
+            command: Command::Inspect { mode, options },
+            devices,
+        })),
         None => Ok(None),
     }
 }
 
 /// The command that `gen` and these words after it say, or None where they are none.
-fn gen_command(alloc: Global, others: &[String]) -> Result<Option<Command>, AllocError>
-    ensures command { IfOk result (λ c. IfSome c (AreWordsOf (codes "gen" ∷ map string_bytes others.now))) }
+fn gen_command(alloc: Global, others: &[String]) -> Result<Option<Spoken>, AllocError>
+    ensures command { IfOk result (λ c. IfSome c (AreWordsFor (codes "gen" ∷ map string_bytes others.now))) }
     ensures none { IfOk result (λ c. IfNone c ((o : Told) (number count : ℕ)
         → IsGen (codes "gen" ∷ map string_bytes others.now) o number count → ⊥)) }
 {
     let Some(matches) = gen_options(alloc, others)? else {
         return Ok(None);
     };
-    let Some((mode, options)) = volume_of(&matches) else {
+    let Some((mode, options, devices)) = volume_of(&matches) else {
         return Ok(None);
     };
     let Some((number, count)) = made_of(&matches) else {
         return Ok(None);
     };
-    Ok(Some(Command::Gen {
+    let command = Command::Gen {
         mode,
         options,
         number,
         count,
-    }))
+    };
+    Ok(Some(Spoken { command, devices }))
 }
 
 /// The command that `sweep` and these words after it say, or None if they are none.
-fn sweep_command(alloc: Global, others: &[String]) -> Result<Option<Command>, AllocError>
-    ensures command { IfOk result (λ c. IfSome c (AreWordsOf (codes "sweep" ∷ map string_bytes others.now))) }
+fn sweep_command(alloc: Global, others: &[String]) -> Result<Option<Spoken>, AllocError>
+    ensures command { IfOk result (λ c. IfSome c (AreWordsFor (codes "sweep" ∷ map string_bytes others.now))) }
     ensures none { IfOk result (λ c. IfNone c ((o : Told) (outcome : Outcome)
         → IsSweep (codes "sweep" ∷ map string_bytes others.now) o outcome → ⊥)) }
 {
     let Some(matches) = sweep_options(alloc, others)? else {
         return Ok(None);
     };
-    let Some((mode, options)) = volume_of(&matches) else {
+    let Some((mode, options, devices)) = volume_of(&matches) else {
         return Ok(None);
     };
     let Some(outcome) = outcome_of(&matches) else {
         return Ok(None);
     };
-    Ok(Some(Command::Sweep {
+    let command = Command::Sweep {
         mode,
         options,
         outcome,
-    }))
+    };
+    Ok(Some(Spoken { command, devices }))
 }

@@ -2,9 +2,11 @@ ghost use Rattle.std.specs.Prelude.{◌≡◌, ℕ, List};
 ghost use Rattle.ft_base.specs.Told.{Told};
 ghost use Rattle.ft_base.specs.declared.power.Outcome.{Outcome};
 ghost use Rattle.command_line.specs.declared.command.TraceForm.{TraceForm};
-ghost use Rattle.command_line.specs.Command.{IsCommand, IsCost, IsGen, IsInspect, IsReplay, IsSweep, Text};
+ghost use Rattle.command_line.specs.declared.devices.Devices.{Devices};
+ghost use Rattle.command_line.specs.Command.{IsCommand, IsCost, IsGen, IsInspect, IsOver, IsReplay, IsSweep, Text};
 
-/// No words say two things: of two commands that they would say, the word and all values are the same.
+/// No words say two things: of two commands that they would say, the word and all values are the same, and so are their
+/// devices.
 pub fn command_law()
     ensures replay { (words : List Text) (o other : Told) → IsCommand words o → IsCommand words other → o ≡ other }
     ensures form { (words : List Text) (o other : Told) (form form_too : TraceForm) → IsReplay words o form
@@ -31,4 +33,5 @@ pub fn command_law()
     ensures swept_inspected { (words : List Text) (o other : Told) (outcome : Outcome) → IsSweep words o outcome → IsInspect words other → ⊥ }
     ensures swept_made { (words : List Text) (o other : Told) (outcome : Outcome) (number count : ℕ) → IsSweep words o outcome
         → IsGen words other number count → ⊥ }
+    ensures devices { (words : List Text) (d other : Devices) → IsOver words d → IsOver words other → d ≡ other }
 {}

@@ -6,12 +6,18 @@ ghost use Rattle.ft_base.specs.declared.power.Outcome.TheVariants.{Torn};
 ghost use Rattle.ft_base.specs.declared.told.Mode.{Mode};
 ghost use Rattle.ft_base.specs.declared.told.Mode.TheVariants.{Back};
 ghost use Rattle.ft_volume.specs.Volume.{told_for};
-ghost use Rattle.command_line.specs.Command.{AreNumbers, IsCount, IsDirty, IsGiven, Say, SayMade, form_word, mode_word, outcome_word};
+ghost use Rattle.command_line.specs.Command.{AreNumbers, IsCount, IsDirty, IsGiven, Say, SayDevices, SayMade, flash_word, form_word, mode_word, outcome_word, parity_word};
 ghost use Rattle.command_line.specs.Matching.{value_of};
 ghost use Rattle.command_line.specs.declared.command.TraceForm.{TraceForm};
 ghost use Rattle.command_line.specs.declared.command.TraceForm.TheVariants.{Lines};
+ghost use Rattle.command_line.specs.declared.devices.Devices.{Devices};
+ghost use Rattle.command_line.specs.declared.devices.FlashKind.{FlashKind};
+ghost use Rattle.command_line.specs.declared.devices.FlashKind.TheVariants.{Plain};
+ghost use Rattle.command_line.specs.declared.devices.Parity.{Parity};
+ghost use Rattle.command_line.specs.declared.devices.Parity.TheVariants.{Off};
 
 use crate::command::TraceForm;
+use crate::devices::{Devices, FlashKind, Parity};
 use crate::matching::value;
 use crate::number::number_of;
 use clap::ArgMatches;
@@ -101,14 +107,75 @@ fn mode_of(matches: &ArgMatches<'_>) -> Option<Mode>
     }
 }
 
-/// What the options say of the volume, or None where one of them has no such value.
-pub(crate) fn volume_of(matches: &ArgMatches<'_>) -> Option<(Mode, Options)>
-    ensures some { IfSome result (λ it. Say (value_of matches.now) (told_for it.0 it.1)) }
+/// The kind of flash of which this is the word.
+fn flash_named(word: &str) -> Option<FlashKind>
+    ensures some { IfSome result (λ f. word.now ≡ flash_word f) }
+    ensures none { IfNone result ((f : FlashKind) → word.now ≡ flash_word f → ⊥) }
+{
+    if word == "plain" {
+        return Some(FlashKind::Plain);
+    }
+    if word == "raw" {
+        return Some(FlashKind::Raw);
+    }
+    None
+}
+
+/// The kind of flash that is given, or flash that tells of its torn pages.
+fn flash_of(matches: &ArgMatches<'_>) -> Option<FlashKind>
+    ensures some { IfSome result (IsGiven flash_word Plain (value_of matches.now (codes "flash"))) }
+    ensures none { IfNone result ((f : FlashKind) → IsGiven flash_word Plain (value_of matches.now (codes "flash")) f → ⊥) }
+{
+    match value(matches, "flash") {
+        Some(word) => flash_named(word),
+        None => Some(FlashKind::Plain),
+    }
+}
+
+/// Whether there is parity, where this is the word.
+fn parity_named(word: &str) -> Option<Parity>
+    ensures some { IfSome result (λ p. word.now ≡ parity_word p) }
+    ensures none { IfNone result ((p : Parity) → word.now ≡ parity_word p → ⊥) }
+{
+    if word == "off" {
+        return Some(Parity::Off);
+    }
+    if word == "on" {
+        return Some(Parity::On);
+    }
+    None
+}
+
+/// Whether there is parity: what is given, or none.
+fn parity_of(matches: &ArgMatches<'_>) -> Option<Parity>
+    ensures some { IfSome result (IsGiven parity_word Off (value_of matches.now (codes "parity"))) }
+    ensures none { IfNone result ((p : Parity) → IsGiven parity_word Off (value_of matches.now (codes "parity")) p → ⊥) }
+{
+    match value(matches, "parity") {
+        Some(word) => parity_named(word),
+        None => Some(Parity::Off),
+    }
+}
+
+/// What the options say of the devices, or None where one has no such value.
+fn devices_of(matches: &ArgMatches<'_>) -> Option<Devices>
+    ensures some { IfSome result (SayDevices (value_of matches.now)) }
+    ensures none { IfNone result ((d : Devices) → SayDevices (value_of matches.now) d → ⊥) }
+{
+    let flash = flash_of(matches)?;
+    let parity = parity_of(matches)?;
+    Some(Devices { flash, parity })
+}
+
+/// What the options say of the volume and of the devices beneath it, or None where one of them has no such value.
+pub(crate) fn volume_of(matches: &ArgMatches<'_>) -> Option<(Mode, Options, Devices)>
+    ensures some { IfSome result (λ it. Say (value_of matches.now) (told_for it.0 it.1) × SayDevices (value_of matches.now) it.2) }
     ensures none { IfNone result ((o : Told) → Say (value_of matches.now) o → ⊥) }
 {
     let mode = mode_of(matches)?;
     let options = options_of(matches)?;
-    Some((mode, options))
+    let devices = devices_of(matches)?;
+    Some((mode, options, devices))
 }
 
 /// How many lines a made trace has.

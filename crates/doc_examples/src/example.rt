@@ -1,13 +1,17 @@
 //! Runs one example, and compares the text that it prints with the text that is shown, and with the text beside its
-//! trace.
+//! trace. If its trace has a name, it is run over other devices as well.
 
 use crate::page::Example;
-use flashtier_cli::run;
+use flashtier_cli::run_on;
 use ft_base::{MemSink, MemSource};
 use mem_rig::MemRig;
+use sealed_media::MemRawRig;
 use std::alloc::{AllocError, Global};
 use std::rt::Files;
 use std::{fs, io};
+
+/// The number from which torn pages of raw flash are drawn.
+const TEAR: u64 = 1;
 
 /// Room for the text that an example prints.
 const ROOM: usize = 65_536;
@@ -19,36 +23,106 @@ pub(crate) enum Difference {
     Status(u8),
     /// The program prints something else.
     Text,
+    /// It ends or prints otherwise over other devices.
+    Devices,
 }
 
-/// Runs an example. `None` if it is as shown.
+/// How a run ended, and the text that it printed.
+#[derive(Drop)]
+struct Outcome {
+    status: u8,
+    text: Vec<u8>,
+}
+
+/// The words of devices other than the plain ones.
+const RAW: [&str; 1] = ["--flash=raw"];
+
+const WITH_PARITY: [&str; 1] = ["--parity=on"];
+
+const RAW_WITH_PARITY: [&str; 2] = ["--flash=raw", "--parity=on"];
+
+/// Runs an example. `None` if it is as shown, and over other devices too.
 pub(crate) fn differs(
     rt: &(impl AllocGlobal + Files),
     example: &Example,
 ) -> io::Result<Option<Difference>> {
-    let alloc = rt.alloc();
     let trace = trace_of(rt, example)?;
+    let outcome = run_over(rt.alloc(), example, trace.as_str(), &[])?;
+    if outcome.status != example.status {
+        return Ok(Some(Difference::Status(outcome.status)));
+    }
+    let text = outcome.text.as_slice();
+    if !is_in_table(example, text) || !is_beside_trace(rt, example, text)? {
+        return Ok(Some(Difference::Text));
+    }
+    if is_same_over_devices(rt.alloc(), example, trace.as_str(), &outcome)? {
+        Ok(None)
+    } else {
+        Ok(Some(Difference::Devices))
+    }
+}
+
+/// Whether an example whose trace has a name prints the same over raw flash, and with parity if no power cut counts its
+/// programs.
+fn is_same_over_devices(
+    alloc: Global,
+    example: &Example,
+    trace: &str,
+    plain: &Outcome,
+) -> io::Result<bool> {
+    if example.name.is_none() || example.has_devices() {
+        return Ok(true);
+    }
+    if !is_same_over(alloc, example, trace, plain, &RAW)? {
+        return Ok(false);
+    }
+    if example.is_sweep() || trace.contains("stop ") {
+        return Ok(true);
+    }
+    Ok(
+        is_same_over(alloc, example, trace, plain, &WITH_PARITY)?
+            && is_same_over(alloc, example, trace, plain, &RAW_WITH_PARITY)?,
+    )
+}
+
+/// Whether it ends and prints the same with these words of devices.
+fn is_same_over(
+    alloc: Global,
+    example: &Example,
+    trace: &str,
+    plain: &Outcome,
+    devices: &[&str],
+) -> io::Result<bool> {
+    let other = run_over(alloc, example, trace, devices)?;
+    Ok(other.status == plain.status && other.text.as_slice() == plain.text.as_slice())
+}
+
+/// Runs an example over a trace, with further words of devices.
+fn run_over(
+    alloc: Global,
+    example: &Example,
+    trace: &str,
+    devices: &[&str],
+) -> io::Result<Outcome> {
+    let mut words = example.words.clone()?;
+    for word in devices {
+        words.push(String::from_str(alloc, word)?)?;
+    }
     let bytes = Vec::from_slice(alloc, trace.as_bytes())?;
     let mut source = MemSource::new(bytes, 4096, Vec::new(alloc));
     let mut sink = MemSink::new(alloc, ROOM, ROOM, Vec::new(alloc))?;
     let mut rig = MemRig::new(alloc);
-    let status = run(
+    let mut raw = MemRawRig::new(alloc, TEAR);
+    let status = run_on(
         alloc,
-        example.words.as_slice(),
+        words.as_slice(),
         &mut source,
         &mut sink,
         &mut rig,
+        &mut raw,
     );
-    if status != example.status {
-        return Ok(Some(Difference::Status(status)));
-    }
-    let is_shown = is_in_table(example, sink.bytes())
-        && is_beside_trace(rt, example, sink.bytes())?;
-    Ok(if is_shown {
-        None
-    } else {
-        Some(Difference::Text)
-    })
+    let text = Vec::from_slice(alloc, sink.bytes())?;
+    Ok(Outcome { status, text })
 }
 
 /// The trace of an example: the trace that it names, or the lines of its table.

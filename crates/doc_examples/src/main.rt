@@ -1,6 +1,7 @@
 //! Runs each command line that README and the page on traces show. Its trace is the one that it names, or the lines
 //! of the table after it. The text that the program prints is compared with the text of that table, word for word,
-//! and with the text beside the trace. Each command line has to end with 0, or with the status that it names.
+//! and with the text beside the trace. A trace with a name is run over raw flash too, and with parity. Each command
+//! line has to end with 0, or with the status that it names.
 #![tactic(auto)]
 
 mod example;
@@ -46,6 +47,7 @@ fn tell(
 ) -> io::Result<()> {
     match difference {
         Difference::Status(status) => println!(rt; "a command ends with {status}"),
+        Difference::Devices => println!(rt; "text {texts} is another over other devices"),
         Difference::Text => println!(rt; "table {tables} or text {texts} is another"),
     }
 }

@@ -64,6 +64,19 @@ impl Example {
         }
     }
 
+    /// Whether its words name devices.
+    pub(crate) fn has_devices(&self) -> bool {
+        self.words.iter().any(|word| word.starts_with("--flash") || word.starts_with("--parity"))
+    }
+
+    /// Whether it is a sweep, which cuts power.
+    pub(crate) fn is_sweep(&self) -> bool {
+        match self.words.first() {
+            Some(word) => word.as_str() == "sweep",
+            None => false,
+        }
+    }
+
     /// Adds a row of the example's table.
     fn add_row(&mut self, alloc: Global, row: &str) -> Result<(), AllocError> {
         let mut cells = row.split('|').skip(1);

@@ -1,11 +1,15 @@
 //! The program: standard input is the trace, standard output takes the text, and flash and disk are in memory.
 #![tactic(auto)]
 
-use flashtier_cli::run;
+use flashtier_cli::run_on;
 use ft_base::{StdSink, StdSource};
 use mem_rig::MemRig;
+use sealed_media::MemRawRig;
 use std::io;
 use std::process::ExitCode;
+
+/// The number from which the torn pages of raw flash are drawn.
+const TEAR: u64 = 1;
 
 /// The words after the program's name.
 fn words_of(rt: &(impl std::rt::Env + AllocGlobal)) -> io::Result<Vec<String>> {
@@ -27,5 +31,13 @@ fn main(rt: HostRuntime) -> ExitCode {
     let mut source = StdSource::new(rt.reader());
     let mut sink = StdSink::new(io::writer(&rt));
     let mut rig = MemRig::new(alloc);
-    ExitCode::from(run(alloc, words.as_slice(), &mut source, &mut sink, &mut rig))
+    let mut raw = MemRawRig::new(alloc, TEAR);
+    ExitCode::from(run_on(
+        alloc,
+        words.as_slice(),
+        &mut source,
+        &mut sink,
+        &mut rig,
+        &mut raw,
+    ))
 }

@@ -1,2 +1,4 @@
+pub mod RunsLemmas
 pub mod StatusLemmas
 pub mod WordsLemmas
+pub mod ParityLemmas

@@ -1,18 +1,19 @@
 -- What holds at a status, from what a run answered.
-use Rattle.std.proofs.Common.{◌≡◌, ◌⊎◌, inl, inr, ℕ, List, Option, Some, Result, Ok, Err, OnOk, IsErrOf, IfSome, refl, sym, subst, ◌∙◌, arith}
+use Rattle.std.proofs.Common.{◌≡◌, ◌⊎◌, ◌≤◌, inl, inr, ℕ, true, Result, Ok, Err, OnOk, IsErrOf, refl, sym, ◌∙◌, arith}
 use Rattle.ft_base.specs.StreamState.{SinkState, SourceState}
-use Rattle.ft_base.specs.Told.{Told}
 use Rattle.ft_media.specs.State.{State}
-use Rattle.command_line.specs.Command.{IsGen, Text}
-use Rattle.command_line.specs.Spoken.{AreWordsOf}
 use Rattle.command_line.specs.declared.command.Command.{Command}
+use Rattle.command_line.specs.declared.devices.Parity.TheVariants.{Off}
+use Rattle.trace_replay.specs.Lent.{KeepsLent}
+use Rattle.std.specs.Io.KnownBytes.{IsAtEnd}
 use Rattle.trace_replay.specs.Causes.{EndHasCause, EndHasCauseUntraced}
 use Rattle.trace_replay.specs.declared.ended.Ended.{Ended}
 use Rattle.trace_replay.specs.declared.ended.Ended.TheVariants.{Trace, Source, Sink, Flash, Disk, Memory}
 use Rattle.cache_run.specs.Begun.{IsUnbegun}
 use Rattle.cache_run.specs.Status.{status_of}
-use Rattle.flashtier_cli.specs.Status.{RunsEveryLine, StatusHasCause}
-use Rattle.flashtier_cli.specs.Words.{ReadsTrace}
+use Rattle.flashtier_cli.specs.Ends.{EndsCommand, IsOverOne}
+use Rattle.flashtier_cli.specs.Runs.{IsMade, IsRead, IsSwept, Runs, RunsEveryLine}
+use Rattle.flashtier_cli.specs.Status.{StatusHasCause}
 
 pub at_ok : {A : Type 0} (r : Result (Unit {0}) Ended) → OnOk r A → status_of r ≡ 0 → A
 at_ok (Ok done) a is = a
@@ -124,26 +125,60 @@ untold r n is not_trace (inl done) = inl done
 untold r n is not_trace (inr (inl refused)) = absurd (at_trace r not_trace (sym is ∙ refused))
 untold r n is not_trace (inr (inr memory)) = inr memory
 
-module _ (words : List Text) (r : Result (Unit {0}) Ended) (n : ℕ) (is : n ≡ status_of r) (a b : SourceState) (x y : SinkState) (old new : State) where
-  -- the words say that a trace is read
-  pub runs_read : ((o : Told) (number count : ℕ) → IsGen words o number count → ⊥) → EndHasCause r a b x y old new → RunsEveryLine words n a b x y old new
-  runs_read other causes = record {
-    complete = λ o says source sink flash disk. unfailed r n is (λ so. source (causes.source so)) (λ so. sink (causes.sink so)) (λ so. flash (causes.flash so)) (λ so. disk (causes.disk so));
-    complete_made = λ o number count says sink flash disk. absurd (other o number count says);
+-- ---- a command that ran
+
+known : (r : Result (Unit {0}) Ended) (n : ℕ) → n ≡ status_of r → n ≤ 7
+known (Ok done) n is = omega (arith, is)
+known (Err Trace) n is = omega (arith, is)
+known (Err Source) n is = omega (arith, is)
+known (Err Sink) n is = omega (arith, is)
+known (Err Flash) n is = omega (arith, is)
+known (Err Disk) n is = omega (arith, is)
+known (Err Memory) n is = omega (arith, is)
+
+module _ (command : Command) (r : Result (Unit {0}) Ended) (n : ℕ) (is : n ≡ status_of r) (a b : SourceState) (x y : SinkState) (old new : State) where
+  every_read : (IsMade command → ⊥) → EndHasCause r a b x y old new → RunsEveryLine command n a b x y old new
+  every_read read causes = record {
+    complete = λ _ source sink flash disk. unfailed r n is (λ so. source (causes.source so)) (λ so. sink (causes.sink so)) (λ so. flash (causes.flash so)) (λ so. disk (causes.disk so));
+    complete_made = λ made sink flash disk. absurd (read made);
   }
 
-  -- they say that one is made
-  pub runs_made : ((o : Told) → ReadsTrace words o → ⊥) → EndHasCauseUntraced r x y old new → RunsEveryLine words n a b x y old new
-  runs_made other causes = record {
-    complete = λ o says source sink flash disk. absurd (other o says);
-    complete_made = λ o number count says sink flash disk. untold r n is causes.not_trace (unfailed r n is causes.not_source (λ so. sink (causes.sink so)) (λ so. flash (causes.flash so)) (λ so. disk (causes.disk so)));
+  every_made : (IsRead command → ⊥) → EndHasCauseUntraced r x y old new → RunsEveryLine command n a b x y old new
+  every_made made causes = record {
+    complete = λ read source sink flash disk. absurd (made read);
+    complete_made = λ _ sink flash disk. untold r n is causes.not_trace (unfailed r n is causes.not_source (λ so. sink (causes.sink so)) (λ so. flash (causes.flash so)) (λ so. disk (causes.disk so)));
   }
 
--- ---- the words of a command
+module _ {I O R : Type 0} (command : Command) (end : Result (Unit {0}) Ended) (n : ℕ) (is : n ≡ status_of end) (i j : I) (o p : O) (r s : R) (a b : SourceState) (x y : SinkState) (old new : State) where
+  -- a trace was read
+  pub runs_read : (IsMade command → ⊥) → (IsOverOne command × IsUnbegun end i j o p old new) ⊎ EndsCommand a b x y old new command end → OnOk end (IsAtEnd b.left) → EndHasCause end a b x y old new
+      → ((IsErrOf end Memory → ⊥) → (new.power.on ≡ true) ⊎ (IsSwept command × (s ≡ r))) → KeepsLent a b x y old new → Runs Off command n i j o p r s a b x y old new
+  runs_read read ends at_end causes on lent = record {
+    ends = record { end = end; is = is; so = ends };
+    end = λ _ done. at_ok end at_end (sym is ∙ done);
+    unused = λ made. absurd (read made);
+    known = known end n is;
+    other = not_one end n is;
+    causes = status_cause end n is a b x y old new causes;
+    on = λ memory. unless_memory end n is on memory;
+    lent = lent;
+    lines = every_read command end n is a b x y old new read causes;
+  }
 
--- what is said of a command that was read is said of the one that runs
-pub spoken : (words : List Text) (f : Option Command) (k : Command) → f ≡ Some k → IfSome f (AreWordsOf words) → AreWordsOf words k
-spoken words f k is said = subst (λ (h : Option Command). IfSome h (AreWordsOf words)) is said
+  -- one was made
+  pub runs_made : (IsRead command → ⊥) → j ≡ i → (IsOverOne command × IsUnbegun end i j o p old new) ⊎ EndsCommand a b x y old new command end → EndHasCauseUntraced end x y old new
+      → ((IsErrOf end Memory → ⊥) → new.power.on ≡ true) → KeepsLent a b x y old new → Runs Off command n i j o p r s a b x y old new
+  runs_made made same ends causes on lent = record {
+    ends = record { end = end; is = is; so = ends };
+    end = λ read. absurd (made read);
+    unused = λ _. same;
+    known = known end n is;
+    other = not_one end n is;
+    causes = status_untraced end n is a b x y old new causes;
+    on = λ memory. inl (unless_memory end n is on memory);
+    lent = lent;
+    lines = every_made command end n is a b x y old new made causes;
+  }
 
 -- ---- before the volume was made
 

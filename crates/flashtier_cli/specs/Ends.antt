@@ -1,5 +1,5 @@
 -- How a command ends.
-use Rattle.std.specs.Prelude.{◌≡◌, ◌⊎◌, ℕ, Bool, List, Result, ⊤}
+use Rattle.std.specs.Prelude.{◌≡◌, ◌⊎◌, ℕ, Bool, List, [], Result, Ok, ⊤}
 use Rattle.cache_model.specs.Stands.{ImageStandsFor}
 use Rattle.cache_run.specs.Costed.{EndsCosted}
 use Rattle.cache_run.specs.Fitted.{fitted_for}
@@ -15,6 +15,7 @@ use Rattle.held_trace.specs.Sweep.{SweepReads}
 use Rattle.msr_trace.specs.Trace.{ReadsMsr}
 use Rattle.trace_gen.specs.Made.{made_trace}
 use Rattle.trace_model.specs.Readings.{Reading, Reads}
+use Rattle.trace_model.specs.declared.ran.Ran.{Ran}
 use Rattle.trace_replay.specs.Commands.{Gives, TellsEnd, TellsEndPart}
 use Rattle.trace_replay.specs.Said.{Tells, TellsPart}
 use Rattle.trace_replay.specs.Theorem.{EndsAs}
@@ -40,6 +41,15 @@ module _ (a b : SourceState) (x y : SinkState) (old now : State) where
       (LoadsAs options.geometry) x y (ImageStandsFor options.geometry) (fitted_for options.geometry old) now end
   EndsCommand (Sweep mode options outcome) end = EndsSweep (told_for mode options) outcome (SweepReads options.geometry.size a b) x y
       (ImageStandsFor options.geometry) old now end
+
+-- the lines that it ran, if it ran every line of one trace
+module _ (a b : SourceState) (x y : SinkState) (old now : State) where
+  abbrev pub ran_by : (command : Command) → EndsCommand a b x y old now command (Ok (tt {0})) → List Ran
+  ran_by (Replay mode options form) end = end.run
+  ran_by (Cost mode options form) end = end.ends.run
+  ran_by (Gen mode options number count) end = end.run
+  ran_by (Inspect mode options) end = end.whole.run
+  ran_by (Sweep mode options outcome) end = []
 
 -- it runs over one volume, which is made before anything is read
 abbrev pub IsOverOne : Command → Type 0

@@ -1,3 +1,5 @@
 pub mod Ends
+pub mod Over
+pub mod Runs
 pub mod Status
 pub mod Words

@@ -2,8 +2,10 @@
 use Rattle.std.specs.Prelude.{◌≡◌, ◌⊎◌, ℕ, List}
 use Rattle.ft_base.specs.Told.{Told}
 use Rattle.ft_base.specs.declared.power.Outcome.{Outcome}
-use Rattle.command_line.specs.Command.{IsCommand, IsCost, IsGen, IsInspect, IsSweep, Text}
+use Rattle.command_line.specs.Command.{IsCommand, IsCost, IsGen, IsInspect, IsOver, IsSweep, Text}
 use Rattle.command_line.specs.declared.command.TraceForm.{TraceForm}
+use Rattle.command_line.specs.declared.devices.Devices.{Devices}
+use Rattle.command_line.specs.declared.devices.FlashKind.{FlashKind}
 
 -- the words are a sweep of a trace, whatever a power cut leaves in it
 abbrev pub IsAnySweep : List Text → Told → Type 0
@@ -21,8 +23,6 @@ ReadsTrace words o = IsCommand words o ⊎ (IsInspect words o ⊎ (IsAnySweep wo
 abbrev pub AreCommand : List Text → Type 0
 AreCommand words = ((o : Told) × ReadsTrace words o) ⊎ ((o : Told) × (number : ℕ) × (count : ℕ) × IsGen words o number count)
 
--- words that are no command are told so, unless memory for reading them is refused, and touch nothing; and no command is told so
-pub record RefusesWords {I O R : Type 0} (said : List Text) (status : ℕ) (a b : I) (x y : O) (old new : R) : Type 0 where
-  pub words : status ≡ 1 → AreCommand said → ⊥
-  pub no_command : (AreCommand said → ⊥) → (status ≡ 1) ⊎ (status ≡ 7)
-  pub nothing : (AreCommand said → ⊥) → (b ≡ a) × (y ≡ x) × (new ≡ old)
+-- they say flash of this kind
+abbrev pub AreOverFlash : FlashKind → List Text → Type 0
+AreOverFlash kind words = (devices : Devices) × IsOver words devices × (devices.flash ≡ kind)

@@ -1,25 +1,16 @@
-ghost use Rattle.std.specs.Prelude.{◌≡◌, ◌≢◌, ◌⊎◌, ◌≤◌, ℕ, Result, true, map};
+ghost use Rattle.std.specs.Prelude.{◌≡◌, map};
 ghost use Rattle.std.specs.String.{string_bytes};
-ghost use Rattle.std.specs.Io.KnownBytes.{IsAtEnd};
-ghost use Rattle.ft_base.specs.Told.{Told};
-ghost use Rattle.trace_replay.specs.declared.ended.Ended.{Ended};
-ghost use Rattle.trace_replay.specs.Lent.{KeepsLent};
-ghost use Rattle.command_line.specs.Command.{IsGen};
-ghost use Rattle.command_line.specs.Spoken.{AreWordsOf};
-ghost use Rattle.command_line.specs.declared.command.Command.{Command};
-ghost use Rattle.cache_run.specs.Begun.{IsUnbegun};
-ghost use Rattle.cache_run.specs.Status as status;
-ghost use Rattle.flashtier_cli.specs.Ends.{EndsCommand, IsOverOne, IsUntouched};
-ghost use Rattle.flashtier_cli.specs.Status.{RunsEveryLine, StatusHasCause};
-ghost use Rattle.flashtier_cli.specs.Words.{IsAnySweep, ReadsTrace, RefusesWords};
+ghost use Rattle.command_line.specs.declared.devices.FlashKind.TheVariants.{Plain, Raw};
+ghost use Rattle.flashtier_cli.specs.Over.{OnSealed};
+ghost use Rattle.flashtier_cli.specs.Runs.{RunsWords};
+ghost use Rattle.flashtier_cli.specs.Words.{AreOverFlash};
 
-use crate::spelled::{cost_spelled, replay_spelled};
-use cache_run::{gen_with, inspect_with, status_of};
-use command_line::{Command, command_of};
+use crate::over::{run_over, run_sealed};
+use command_line::{FlashKind, command_of};
 use ft_base::{Sink, Source};
 use ft_media::{Media, Rig};
+use sealed_media::{RawMedia, RawRig};
 use std::alloc::Global;
-use trace_sweep::sweep_with;
 
 /// Runs the command that the words say, and answers its status.
 ///
@@ -35,6 +26,8 @@ use trace_sweep::sweep_with;
 /// | `--journal` | erase blocks of a log region | 1 to 16 | 2 |
 /// | `--size` | blocks of the volume | 1 to 2^40 | 1,048,576 |
 /// | `--dirty` | groups that an idle step leaves dirty | 1 to the data blocks | half of these, rounded up |
+/// | `--flash` | whether flash tells which of its pages are torn, `plain`, or gives back their bytes alone, `raw` | | `plain` |
+/// | `--parity` | whether an erase block has one more page with the parity of the others: `off` or `on` | | `off` |
 /// | `--form`, of `replay` and `cost` alone | form of the trace's lines: `lines`, or `msr` for those of MSR Cambridge | | `lines` |
 /// | `--number`, of `gen` alone | which made trace | 0 to 2^64 - 1 | 1 |
 /// | `--count`, of `gen` alone | lines of the made trace | 1 to 1,000,000 | 20,000 |
@@ -62,10 +55,14 @@ use trace_sweep::sweep_with;
 /// with power cut there and in the second device write after it. For each of these runs it prints `at K` and what
 /// each request answered, and at the end `swept N`.
 ///
+/// With `--parity on` a page that can't be read is rebuilt from the others of its erase block, if all of these were
+/// programmed. A stop counts the programs of parity pages too. Raw flash needs a rig of its own: this function refuses
+/// `--flash raw`, and `run_on` runs it.
+///
 /// | Status | Comes |
 /// |---|---|
 /// | 0 | the source was read to its end, or the trace is a made one, and every line was run |
-/// | 1 | the words are no command; nothing is read or printed |
+/// | 1 | the words are no command, or ask for raw flash; nothing is read or printed |
 /// | 2 | a line was refused, after those before it were run, or before any was with `sweep`; the last line printed says why; not with `gen` |
 /// | 3 | the source failed, after the lines that ended before were run, or before any was with `sweep`; not with `gen` |
 /// | 4 | the sink failed; what it took is a front of the text |
@@ -78,68 +75,54 @@ pub fn run<I: Source, O: Sink, R: Rig>(
     sink: &mut O,
     rig: &mut R,
 ) -> u8
-    // The words are a command, and it ended so: before its volume was made, or over it; or nothing was touched.
-    // Over its volume the text is what a plain disk prints that holds, after each recovery, a prefix of the block
-    // writes with every acknowledged one; and the media are that disk, wherever power stops next.
-    ensures ends { ((command : Command) × (end : Result (Unit {0}) Ended) × AreWordsOf (map string_bytes words.now) command
-        × (result ≡ status.status_of end)
-        × ((IsOverOne command × IsUnbegun end source.old source.new sink.old sink.new (R.state rig.old) (R.state rig.new))
-        ⊎ EndsCommand (I.state source.old) (I.state source.new) (O.state sink.old) (O.state sink.new) (R.state rig.old)
-        (R.state rig.new) command end))
-        ⊎ IsUntouched result source.old source.new sink.old sink.new rig.old rig.new }
-    ensures end { result ≡ 0 → (o : Told) → ReadsTrace (map string_bytes words.now) o → IsAtEnd (I.state source.new).left }
-
-    // A made trace takes nothing from the source, however it ends.
-    ensures unused { (o : Told) (number count : ℕ) → IsGen (map string_bytes words.now) o number count → source.new ≡ source.old }
-
-    // Words that are no command touch nothing, also where memory for reading them is refused.
-    ensures words { RefusesWords (map string_bytes words.now) result source.old source.new sink.old sink.new rig.old rig.new }
-
-    ensures known { result ≤ 7 }
-
-    ensures causes { StatusHasCause result (I.state source.old) (I.state source.new) (O.state sink.old) (O.state sink.new)
-        (R.state rig.old) (R.state rig.new) }
-
-    // Also if power was off before; but a sweep of a trace that it refuses leaves the rig as it was.
-    ensures on { result ≢ 1 → result ≢ 7 → ((R.state rig.new).power.on ≡ true)
-        ⊎ (((o : Told) × IsAnySweep (map string_bytes words.now) o) × (rig.new ≡ rig.old)) }
-    ensures lent { KeepsLent (I.state source.old) (I.state source.new) (O.state sink.old) (O.state sink.new) (R.state rig.old)
-        (R.state rig.new) }
-
-    // Where nothing failed, memory was there and no line is refused, every line is run.
-    ensures complete { RunsEveryLine (map string_bytes words.now) result (I.state source.old) (I.state source.new) (O.state sink.old)
-        (O.state sink.new) (R.state rig.old) (R.state rig.new) }
+    // The words say a command over plain flash, and it ran so; or nothing was touched.
+    ensures { RunsWords Plain (map string_bytes words.now) result source.old source.new sink.old sink.new rig.old rig.new
+        (I.state source.old) (I.state source.new) (O.state sink.old) (O.state sink.new) (R.state rig.old) (R.state rig.new) }
 {
-    let Ok(command) = command_of(alloc, words) else {
+    let Ok(spoken) = command_of(alloc, words) else {
         return 7;
     };
-    let Some(command) = command else {
+    let Some(spoken) = spoken else {
         return 1;
     };
-    match command {
-        Command::Replay {
-            mode,
-            options,
-            form,
-        } => status_of(replay_spelled(alloc, mode, &options, form, source, sink, rig)),
-        Command::Cost {
-            mode,
-            options,
-            form,
-        } => status_of(cost_spelled(alloc, mode, &options, form, source, sink, rig)),
-        Command::Gen {
-            mode,
-            options,
-            number,
-            count,
-        } => status_of(gen_with(alloc, mode, &options, number, count, sink, rig)),
-        Command::Inspect { mode, options } => {
-            status_of(inspect_with(alloc, mode, &options, source, sink, rig))
-        }
-        Command::Sweep {
-            mode,
-            options,
-            outcome,
-        } => status_of(sweep_with(alloc, mode, &options, outcome, source, sink, rig)),
+    let parity = spoken.devices.parity;
+    match spoken.devices.flash {
+        FlashKind::Plain => run_over(alloc, spoken.command, parity, source, sink, rig),
+        FlashKind::Raw => 1,
+    }
+}
+
+/// Runs the command that the words say as `run` does, over the one of two rigs that they say, and answers its status. The
+/// other is untouched.
+///
+/// With `--flash plain`, the default, it runs over `rig`. With `--flash raw` it runs over `raw`, and each page carries a
+/// seal, by which a torn page is known.
+pub fn run_on<I: Source, O: Sink, R: Rig, W: RawRig>(
+    alloc: Global,
+    words: &[String],
+    source: &mut I,
+    sink: &mut O,
+    rig: &mut R,
+    raw: &mut W,
+) -> u8
+    // Unless the words say raw flash, all is as `run` says of this rig.
+    ensures plain { (AreOverFlash Raw (map string_bytes words.now) → ⊥) → (raw.new ≡ raw.old)
+        × RunsWords Plain (map string_bytes words.now) result source.old source.new sink.old sink.new rig.old rig.new
+        (I.state source.old) (I.state source.new) (O.state sink.old) (O.state sink.new) (R.state rig.old) (R.state rig.new) }
+    // If they say it, all is so of the media for which the raw ones stand.
+    ensures raw { AreOverFlash Raw (map string_bytes words.now) → (rig.new ≡ rig.old)
+        × OnSealed (RunsWords Raw (map string_bytes words.now) result source.old source.new sink.old sink.new raw.old raw.new
+        (I.state source.old) (I.state source.new) (O.state sink.old) (O.state sink.new)) (W.state raw.old) (W.state raw.new) }
+{
+    let Ok(spoken) = command_of(alloc, words) else {
+        return 7;
+    };
+    let Some(spoken) = spoken else {
+        return 1;
+    };
+    let parity = spoken.devices.parity;
+    match spoken.devices.flash {
+        FlashKind::Plain => run_over(alloc, spoken.command, parity, source, sink, rig),
+        FlashKind::Raw => run_sealed(alloc, spoken.command, parity, source, sink, raw),
     }
 }

@@ -4,3 +4,4 @@ pub mod TiedLemmas
 pub mod WritesLemmas
 pub mod ShownLemmas
 pub mod ProgramLemmas
+pub mod SinceLemmas

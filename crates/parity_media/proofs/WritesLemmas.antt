@@ -13,6 +13,7 @@ use Rattle.ft_media.specs.Media.{Crashed, DiskStays, DeviceWrite, FlashCause, if
 use Rattle.ft_media.specs.Rig.{SettledByStop, after_cut}
 use Rattle.ft_media.proofs.PassesLemmas.{passes_then}
 use Rattle.parity_media.specs.Writes.{OtherCountsStay, WritesFlash}
+use Rattle.parity_media.proofs.SinceLemmas.{faults_told, faults_then}
 
 others_program : {T : Type 0} (r : Result T MediaError) (a b : Counts) → b ≡ if_ok r (program_counted a) a → OtherCountsStay a b
 others_program (Ok v) a b is = record { disk_reads = ap (λ (c : Counts). c.disk_reads) is; disk_writes = ap (λ (c : Counts). c.disk_writes) is; disk_flushes = ap (λ (c : Counts). c.disk_flushes) is }
@@ -36,8 +37,7 @@ module _ {T : Type 0} (a b : State) (r : Result T MediaError) (disk : DiskStays 
     settled = settled;
     others = others;
     disk_faults = cause.disk;
-    flash_later = cause.flash;
-    failed = cause.failed;
+    faults = faults_told a.faults b.faults (failed r) (lost r) cause;
     memory = memory;
     device = device;
     passes = passes;
@@ -75,8 +75,7 @@ writes_then {T} {U} a b c v r first then =
         disk_flushes = then.others.disk_flushes ∙ first.others.disk_flushes;
       };
       disk_faults = then.disk_faults ∙ first.disk_faults;
-      flash_later = let x = first.flash_later in let y = then.flash_later in omega (arith, x, y);
-      failed = λ yes. let x = first.flash_later in let y = then.failed yes in omega (arith, x, y);
+      faults = faults_then a.faults b.faults c.faults false false (failed r) (lost r) first.faults then.faults;
       memory = then.memory;
       device = record {
         shape = then.device.shape ∙ first.device.shape;

@@ -4,3 +4,4 @@ pub mod Shown
 pub mod Tied
 pub mod Laws
 pub mod Writes
+pub mod Since

@@ -8,6 +8,7 @@ use Rattle.ft_media.specs.State.{State, failed, lost}
 use Rattle.ft_media.specs.Passes.{Passes}
 use Rattle.ft_media.specs.Media.{Crashed, DiskStays, DeviceWrite}
 use Rattle.ft_media.specs.Rig.{SettledByStop}
+use Rattle.parity_media.specs.Since.{TellsFaults}
 
 -- every count stays but the one of pages programmed
 pub record OtherCountsStay (old new : Counts) : Type 0 where
@@ -22,8 +23,7 @@ pub record WritesFlash {T : Type 0} (old new : State) (result : Result T MediaEr
   pub settled : SettledByStop old new (lost result) old.contents.disk
   pub others : OtherCountsStay old.counts new.counts
   pub disk_faults : new.faults.disk ≡ old.faults.disk
-  pub flash_later : old.faults.flash ≤ new.faults.flash
-  pub failed : failed result ≡ true → Rose old.faults.flash new.faults.flash
+  pub faults : TellsFaults old.faults new.faults (failed result) (lost result)
   pub memory : IsErrOf result error.OutOfMemory → ⊥
   pub device : DeviceWrite old new result
   pub passes : Passes old new (lost result)

@@ -1,12 +1,13 @@
 ghost use Rattle.std.specs.Prelude.{◌≡◌, ◌<◌, ◌+◌, ◌==◌, ℕ, true, false, is_ok, Some, None, OnOk, OnErr, IfOk, IsErrOf, if◌then◌else◌};
 ghost use Rattle.ft_base.specs.Contents.{set};
 ghost use Rattle.ft_base.specs.Count.{bumped};
-ghost use Rattle.ft_media.specs.State.{lost};
+ghost use Rattle.ft_media.specs.State.{failed, lost};
 ghost use Rattle.ft_media.specs.Media.{Found, UnlessWhole, IsNextPage, LeavesPage, PagesErased, ReadPower, after_program, after_erase};
 ghost use Rattle.ft_media.specs.Passes.{Passes};
 ghost use Rattle.ft_media.specs.Fitted.{fitted};
 ghost use Rattle.parity_media.specs.Kept.{parity_blocks, parity_pages, parity_of, completed, OneChanged};
 ghost use Rattle.parity_media.specs.Shown.{shown_flash};
+ghost use Rattle.parity_media.specs.Since.{TellsFaults};
 ghost use Rattle.parity_media.specs.Tied.{Tied};
 ghost use Rattle.parity_media.specs.Writes.{WritesFlash, FailsTwice};
 
@@ -35,6 +36,7 @@ pub(crate) fn read_at<R: Rig>(
     ensures power { ReadPower (R.state rig.old).power (R.state rig.new).power (lost result) }
     ensures passes { Passes (R.state rig.old) (R.state rig.new) (lost result) }
     ensures memory { IsErrOf result MediaError.OutOfMemory → ⊥ }
+    ensures faults { TellsFaults (R.state rig.old).faults (R.state rig.new).faults (failed result) (lost result) }
     // A page of a complete block fails only if another one fails too.
     ensures cause { IsErrOf result MediaError.Failed
         → FailsTwice (R.state rig.old) (R.state rig.new) (parity_of parities.now at.block).complete }

@@ -4,10 +4,11 @@ ghost use Rattle.std.specs.String.{string_bytes};
 ghost use Rattle.trace_model.specs.Text.{text_of};
 ghost use Rattle.trace_model.specs.declared.answer.Answer.TheVariants as answer;
 
-use flashtier_cli::run;
+use flashtier_cli::run_on;
 use ft_base::{MemSink, MemSource};
 use ft_media::{Counts, Rig};
 use mem_rig::MemRig;
+use sealed_media::{MemRawRig, RawMedia, RawRig};
 use std::alloc::{AllocError, Global};
 use std::io;
 use std::rt::Clock;
@@ -16,6 +17,9 @@ use trace_text::{Answer, next_line, read_answer};
 
 /// Room for an end line: a word, three numbers, a digest and the spaces between them.
 const ROOM: usize = 256;
+
+/// The number from which torn pages of raw flash are drawn. No power is cut in a made trace, so no page is torn.
+const TEAR: u64 = 1;
 
 /// The numbers of an end line.
 #[derive(Clone, Copy, Debug, PartialEq, Eq)]
@@ -53,11 +57,11 @@ pub fn replay(
     let Some(end) = end_of(ended.text.as_slice()) else {
         return Err(io::Error::other("a run has no end line"));
     };
-    let rig = ended.rig;
+    let (counts, blocks, pages) = ended.flash();
     Ok(Ok(Replayed {
         end,
-        counts: rig.counts(),
-        pages: u64::from(rig.flash_blocks()).saturating_mul(u64::from(rig.flash_pages())),
+        counts,
+        pages: u64::from(blocks).saturating_mul(u64::from(pages)),
         time: ended.time,
     }))
 }
@@ -69,10 +73,26 @@ pub(crate) struct Ended {
     pub(crate) status: u8,
     /// The text that it printed.
     pub(crate) text: Vec<u8>,
-    /// Flash and disk.
+    /// Flash and disk, which a run with `--flash raw` leaves alone.
     pub(crate) rig: MemRig,
+    /// Raw flash and its disk, which every other run leaves alone.
+    pub(crate) raw: MemRawRig,
     /// How long it took.
     pub(crate) time: Duration,
+}
+
+impl Ended {
+    /// The counts of the devices that it ran over, and the blocks of their flash and the pages of each.
+    fn flash(&self) -> (Counts, u32, u32) {
+        if self.raw.blocks() > 0 {
+            return (self.raw.counts(), self.raw.blocks(), self.raw.pages());
+        }
+        (
+            self.rig.counts(),
+            self.rig.flash_blocks(),
+            self.rig.flash_pages(),
+        )
+    }
 }
 
 /// Runs the program with this word and these options over a trace. There is room for `room` bytes of text.
@@ -88,14 +108,23 @@ pub(crate) fn run_timed(
     let mut source = MemSource::new(trace, 4096, Vec::new(alloc));
     let mut sink = MemSink::new(alloc, room, 1 << 16, Vec::new(alloc))?;
     let mut rig = MemRig::new(alloc);
+    let mut raw = MemRawRig::new(alloc, TEAR);
     let start = Instant::now(rt)?;
-    let status = run(alloc, words.as_slice(), &mut source, &mut sink, &mut rig);
+    let status = run_on(
+        alloc,
+        words.as_slice(),
+        &mut source,
+        &mut sink,
+        &mut rig,
+        &mut raw,
+    );
     let time = start.elapsed(rt)?;
     let text = Vec::from_slice(alloc, sink.bytes())?;
     Ok(Ended {
         status,
         text,
         rig,
+        raw,
         time,
     })
 }

@@ -1,13 +1,15 @@
 //! The words after the program's name: some are commands, and some are none.
 
-use command_line::{Command, TraceForm, command_law, command_of};
+use command_line::{
+    Command, Devices, FlashKind, Parity, Spoken, TraceForm, command_law, command_of,
+};
 use ft_base::Outcome;
 use ft_volume::{Mode, Options};
 use std::alloc::Global;
 use std::test::Fail;
 
-/// The command of the words between these spaces.
-fn command_in(alloc: Global, line: &str) -> Result<Option<Command>, Fail> {
+/// What the words between these spaces say.
+fn spoken_in(alloc: Global, line: &str) -> Result<Option<Spoken>, Fail> {
     let mut words = Vec::new(alloc);
     for word in line.split(' ') {
         words.push(String::from_str(alloc, word)?)?;
@@ -20,7 +22,7 @@ fn command_in(alloc: Global, line: &str) -> Result<Option<Command>, Fail> {
 /// The first line whose words are a command, if there is one.
 fn first_command(alloc: Global, lines: &[&str]) -> Result<Option<usize>, Fail> {
     for i in 0..lines.len() {
-        if command_in(alloc, lines[i])?.is_some() {
+        if spoken_in(alloc, lines[i])?.is_some() {
             return Ok(Some(i));
         }
     }
@@ -227,6 +229,33 @@ fn a_form_is_one_of_two_words_and_of_a_replay_alone(rt: HostRuntime) -> Result<(
     Ok(())
 }
 
+const NO_DEVICES: [&str; 18] = [
+    "replay --flash",
+    "replay --flash=",
+    "replay --flash on",
+    "replay --flash Raw",
+    "replay --flash=plain,raw",
+    "replay --flash raw plain",
+    "replay --flash raw --flash raw",
+    "replay --flash=raw --flash=plain",
+    "replay --parity",
+    "replay --parity=",
+    "replay --parity raw",
+    "replay --parity ON",
+    "replay --parity=yes",
+    "replay --parity on --parity=on",
+    "gen --flash=torn",
+    "inspect --parity 1",
+    "cost --flashes raw",
+    "sweep --parity=of",
+];
+
+#[test]
+fn devices_are_said_by_their_words(rt: HostRuntime) -> Result<(), Fail> {
+    assert_eq!(rt; first_command(rt.alloc(), &NO_DEVICES)?, None);
+    Ok(())
+}
+
 // ---- commands
 
 /// The numbers in the order of the options.
@@ -295,8 +324,8 @@ fn says(command: Command, kind: Kind, mode: Mode, numbers: [u64; 6]) -> bool {
 
 fn is_said(alloc: Global, row: Row) -> Result<bool, Fail> {
     let (line, kind, mode, numbers) = row;
-    match command_in(alloc, line)? {
-        Some(command) => Ok(says(command, kind, mode, numbers)),
+    match spoken_in(alloc, line)? {
+        Some(spoken) => Ok(says(spoken.command, kind, mode, numbers)),
         None => Ok(false),
     }
 }
@@ -545,5 +574,47 @@ const MADE_TRACES: [Row; 6] = [
 #[test]
 fn a_made_trace_has_a_number_and_a_count(rt: HostRuntime) -> Result<(), Fail> {
     assert_eq!(rt; first_other(rt.alloc(), &MADE_TRACES)?, None);
+    Ok(())
+}
+
+/// Lines, and the devices that their words say.
+const DEVICES: [(&str, FlashKind, Parity); 9] = [
+    ("replay", FlashKind::Plain, Parity::Off),
+    (
+        "replay --flash plain --parity=off",
+        FlashKind::Plain,
+        Parity::Off,
+    ),
+    ("replay --flash raw", FlashKind::Raw, Parity::Off),
+    ("replay --parity on", FlashKind::Plain, Parity::On),
+    (
+        "replay --parity=on --size 64 --flash=raw",
+        FlashKind::Raw,
+        Parity::On,
+    ),
+    ("gen --flash=raw --count 5", FlashKind::Raw, Parity::Off),
+    (
+        "inspect --pages 4 --parity on",
+        FlashKind::Plain,
+        Parity::On,
+    ),
+    ("cost --form msr --flash raw", FlashKind::Raw, Parity::Off),
+    (
+        "sweep --flash raw --parity on --outcome blank",
+        FlashKind::Raw,
+        Parity::On,
+    ),
+];
+
+#[test]
+fn all_commands_say_their_devices(rt: HostRuntime) -> Result<(), Fail> {
+    for (line, flash, parity) in DEVICES {
+        match spoken_in(rt.alloc(), line)? {
+            Some(spoken) => {
+                assert_eq!(rt; spoken.devices, Devices { flash, parity }, "{line}");
+            }
+            None => assert!(rt; false, "{line}"),
+        }
+    }
     Ok(())
 }

@@ -1,7 +1,10 @@
-use Rattle.std.proofs.Common.{map}
+use Rattle.std.proofs.Common.{map, refl}
 use Rattle.std.specs.String.{string_bytes}
 use Rattle.command_line.specs.Matching.{value_of}
-use Rattle.command_line.proofs.ValueLemmas.{no_read_form, no_read_volume}
+use Rattle.command_line.proofs.ValueLemmas.{form_along, no_read_form, no_read_volume, say_along}
+use Rattle.command_line.proofs.DeviceLemmas.{over_from, replay_among}
+use Rattle.command_line.specs.Command.{replay_names, value_in}
+use Rattle.ft_volume.specs.Volume.{told_for}
 use Rattle.command_line.proofs.command.read_of.Goals as goal
 
 pub returns-in_default-volume_of-clause-none : goal.returns-in_default-volume_of-clause-none
@@ -13,3 +16,21 @@ pub returns-in_default-form_of-clause-none : goal.returns-in_default-form_of-cla
 returns-in_default-form_of-clause-none c =
     let (settings, spelled, values) = rw c.in-Some.is at c.in_ok-matches.ensures.some in
     no_read_form (map string_bytes c.args.others.now) settings (value_of c.in-Some.matches) values spelled (rw c.in_default-form_of.is at c.form_of.ensures.none)
+
+pub returns-clause-some : goal.returns-clause-some
+returns-clause-some c = λ word.
+    let (settings, spelled, values) = rw c.in-Some.is at c.in_ok-matches.ensures.some in
+    let others = map string_bytes c.args.others.now in
+    let value = value_of c.in-Some.matches in
+    let said = c.in-Some-volume_of in
+    let (says, devices) = said.ensures.some in (
+      record {
+        others = others;
+        first = refl;
+        settings = settings;
+        spelled = spelled;
+        says = say_along value (value_in settings) (told_for said.mode said.options) values says;
+        spelling = form_along value (value_in settings) c.in-Some-form_of.form values c.in-Some-form_of.ensures.some;
+      },
+      over_from replay_names others settings value said.devices replay_among spelled values devices word,
+    )

@@ -1,4 +1,5 @@
 use Rattle.std.proofs.Common.{codes}
+use Rattle.command_line.proofs.DeviceLemmas.{same_over}
 use Rattle.command_line.proofs.ValueLemmas.{apart, costed_apart, costed_inspected, costed_made, costed_swept, inspected_apart, inspected_made, same_command, same_gen, same_read, same_replayed, same_spelling, same_sweep, swept_apart, swept_inspected, swept_made}
 use Rattle.command_line.proofs.laws.command_law.Goals as goal
 
@@ -49,3 +50,6 @@ returns-clause-swept_inspected c = swept_inspected
 
 pub returns-clause-swept_made : goal.returns-clause-swept_made
 returns-clause-swept_made c = swept_made
+
+pub returns-clause-devices : goal.returns-clause-devices
+returns-clause-devices c = same_over

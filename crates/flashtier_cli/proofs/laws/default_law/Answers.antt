@@ -1,8 +1,10 @@
-use Rattle.std.proofs.Common.{◌∙◌, ◌+◌, ◌/◌, ℕ, [], arith, ap, refl, sym}
+use Rattle.std.proofs.Common.{◌∙◌, ◌+◌, ◌/◌, ℕ, [], arith, ap, codes, refl, sym}
+use Rattle.command_line.specs.declared.devices.FlashKind.TheVariants.{Plain}
+use Rattle.command_line.specs.declared.devices.Parity.TheVariants.{Off}
 use Rattle.flashtier_cli.proofs.laws.default_law.Goals as goal
 
-pub returns : goal.returns
-returns c = λ o is.
+pub returns-clause-replay : goal.returns-clause-replay
+returns-clause-replay c = λ o is.
     record {
       others = [];
       first = refl;
@@ -16,6 +18,18 @@ returns c = λ o is.
                 let dirty = is.dirty in let data_blocks = is.data_blocks in
                 record { given = is.dirty ∙ sym (ap (λ (n : ℕ). (n + 1) / 2) is.data_blocks); low = omega arith; high = omega arith };
             ack = is.ack;
+            devices = record { flash = Plain; parity = Off };
+            over = record { flash = refl; parity = refl };
           };
       spelling = refl;
     }
+
+pub returns-clause-devices : goal.returns-clause-devices
+returns-clause-devices c = record {
+  word = codes "replay";
+  others = [];
+  first = refl;
+  settings = [];
+  spelled = record { spelled = refl; known = tt; once = tt };
+  says = record { flash = refl; parity = refl };
+}
