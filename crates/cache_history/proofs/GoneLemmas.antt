@@ -6,8 +6,8 @@ use Rattle.ft_base.specs.declared.geometry.Geometry.{Geometry}
 use Rattle.cache_model.specs.Cache.{Vanish}
 use Rattle.cache_model.specs.CacheList.{Held, CacheList}
 use Rattle.cache_history.specs.declared.kind.Kind.{Kind}
-use Rattle.cache_history.specs.declared.kind.Kind.TheVariants.{WriteDirty, WriteClean, Evict, Clean, Commit, Checkpoint}
-use Rattle.cache_history.specs.History.{LeftByKind, unless_gone, is_write}
+use Rattle.cache_history.specs.declared.kind.Kind.TheVariants.{WriteDirty, WriteLater, WriteClean, Evict, Clean, Commit, Checkpoint}
+use Rattle.cache_history.specs.History.{LeftByKind, is_write}
 
 -- a block is held, clean
 abbrev pub IsClean : Option Held → Type 0
@@ -29,6 +29,7 @@ vanished_at g s a v van n = elim (cases_Bool (van.gone (n / g.p))) [
 
 pub left_at : (g : Geometry) (kind : Kind) (a : ℕ) (s v : CacheList) → LeftByKind g kind a s v → (n : ℕ) → (get v n ≡ get s n) ⊎ LostAt kind (get s n) (get v n)
 left_at g WriteDirty a s v left n = elim (vanished_at g s a v left n) [ inl same ↦ inl same | inr gave ↦ inr (gave.0, gave.1, refl) ]
+left_at g WriteLater a s v left n = elim (vanished_at g s a v left n) [ inl same ↦ inl same | inr gave ↦ inr (gave.0, gave.1, refl) ]
 left_at g WriteClean a s v left n = elim (vanished_at g s a v left n) [ inl same ↦ inl same | inr gave ↦ inr (gave.0, gave.1, refl) ]
 left_at g Evict a s v left n = inl (ap (λ (l : CacheList). get l n) left)
 left_at g Clean a s v left n = inl (ap (λ (l : CacheList). get l n) left)
@@ -41,6 +42,7 @@ none_vanish g s a = record { gone = λ group. false; stays = λ n. refl; clean =
 
 pub left_whole : (g : Geometry) (kind : Kind) (a : ℕ) (s : CacheList) → LeftByKind g kind a s s
 left_whole g WriteDirty a s = none_vanish g s a
+left_whole g WriteLater a s = none_vanish g s a
 left_whole g WriteClean a s = none_vanish g s a
 left_whole g Evict a s = refl
 left_whole g Clean a s = refl
@@ -50,13 +52,3 @@ left_whole g Checkpoint a s = refl
 -- an absent address is absent in the list that is left
 pub vanished_none : (g : Geometry) (s : CacheList) (a : ℕ) (v : CacheList) → Vanish g s a v → (n : ℕ) → get s n ≡ None → get v n ≡ None
 vanished_none g s a v van n is = elim (vanished_at g s a v van n) [ inl same ↦ same ∙ is | inr gave ↦ gave.1 ]
-
--- ---- the block that a crash would leave
-
-pub unless_same : (o left before : Option Held) → left ≡ o → unless_gone o left before ≡ before
-unless_same None left before is = refl
-unless_same (Some h) left before is = ap (λ l. unless_gone (Some h) l before) is
-
-pub unless_lost : (o left before : Option Held) → IsClean o → left ≡ None → unless_gone o left before ≡ None
-unless_lost None left before clean is = let both : None ≡ Some clean.0 = clean.1 in absurd (cc)
-unless_lost (Some h) left before clean is = ap (λ l. unless_gone (Some h) l before) is

@@ -1,15 +1,21 @@
 -- A block that was written for its address still is.
-use Rattle.std.proofs.Common.{◌≡◌, Result, Ok, Err, IfOk, ℕ, ◌==◌, Bool, true, false, List, [], ◌∷◌, Option, Some, None, refl, sym, ◌∙◌, ap, subst, inl, inr, eqb-true}
+use Rattle.std.proofs.Common.{◌≡◌, ◌↔◌, Result, Ok, Err, IfOk, ℕ, ◌==◌, Bool, true, false, List, [], ◌∷◌, Option, Some, None, refl, sym, ◌∙◌, ap, subst, inl, inr, eqb-true}
 use Rattle.std.specs.FinMap.{get}
 use Rattle.ft_base.specs.declared.block.Block.{Block}
 use Rattle.ft_base.specs.declared.geometry.Geometry.{Geometry}
+use Rattle.ft_base.specs.Contents.{Contents}
 use Rattle.cache_model.specs.Spelling.{data_spare}
 use Rattle.cache_model.specs.Cache.{AreOwn, written_block}
 use Rattle.cache_model.specs.CacheList.{CacheList, Held}
+use Rattle.ssc.specs.declared.cache.Ssc.{Ssc}
+use Rattle.ssc.specs.declared.error.SscError.{SscError}
+use Rattle.ssc.specs.declared.scrubbing.Scrub.{Scrub}
+use Rattle.ssc.specs.CacheState.{Holds}
+use Rattle.ssc.specs.Own.{HoldsOwn}
 use Rattle.ssc.proofs.OwnLemmas.{IsOwnAt, own_as, own_marked, own_none}
 use Rattle.cache_history.specs.declared.kind.Kind.{Kind}
-use Rattle.cache_history.specs.declared.kind.Kind.TheVariants.{WriteDirty, WriteClean, Evict, Clean, Commit, Checkpoint}
-use Rattle.cache_history.specs.History.{Given, CacheEvent, Answered, Refused, Crashed, TwoLists, AfterAnswer, AfterRefusal, LeftBy, LivedFrom, stepped, unless_gone}
+use Rattle.cache_history.specs.declared.kind.Kind.TheVariants.{WriteDirty, WriteLater, WriteClean, Evict, Clean, Commit, Checkpoint}
+use Rattle.cache_history.specs.History.{Given, CacheEvent, Answered, Refused, Crashed, TwoLists, AfterAnswer, AfterRefusal, LeftBy, LivedFrom, stepped}
 use Rattle.cache_history.proofs.GoneLemmas.{left_at}
 use Rattle.cache_history.proofs.StepLemmas.{get_stepped, step_at}
 
@@ -17,16 +23,24 @@ use Rattle.cache_history.proofs.StepLemmas.{get_stepped, step_at}
 step_own : (a lba : ℕ) (here : Bool) (kind : Kind) (block : Block) (o : Option Held) → (here ≡ true → a ≡ lba) → IsOwnAt a o → IsOwnAt a (step_at here kind lba block o)
 step_own a lba false kind block o at own = own
 step_own a lba true WriteDirty block o at own = λ h is. let same : written_block lba block true ≡ h = cc in sym (ap (λ (x : Held). x.spare) same) ∙ ap data_spare (sym (at refl))
+step_own a lba true WriteLater block o at own = λ h is. let same : written_block lba block true ≡ h = cc in sym (ap (λ (x : Held). x.spare) same) ∙ ap data_spare (sym (at refl))
 step_own a lba true WriteClean block o at own = λ h is. let same : written_block lba block false ≡ h = cc in sym (ap (λ (x : Held). x.spare) same) ∙ ap data_spare (sym (at refl))
 step_own a lba true Evict block o at own = own_none a
 step_own a lba true Clean block o at own = own_marked false a o own
 step_own a lba true Commit block o at own = own
 step_own a lba true Checkpoint block o at own = own
 
-own_unless : (a : ℕ) (o left before : Option Held) → IsOwnAt a before → IsOwnAt a (unless_gone o left before)
-own_unless a None left before own = own
-own_unless a (Some h) None before own = own_none a
-own_unless a (Some h) (Some k) before own = own
+-- a scrub of a cache whose blocks were each written for their own address finds nothing strange
+pub looked : (c d : Ssc) (old new : Contents) (r : Result Scrub SscError) → d ≡ c → new ≡ old → IfOk r (λ scrub. (s : CacheList) → Holds c old s → (scrub.strange ≡ None) ↔ AreOwn s)
+    → HoldsOwn c old → IfOk r (λ scrub. scrub.strange ≡ None) × HoldsOwn d new
+looked c d old new r same contents found own = (
+  none_strange r found,
+  subst (λ (k : Ssc). HoldsOwn k new) (sym same) (subst (λ (x : Contents). HoldsOwn c x) (sym contents) own),
+)
+  where
+    none_strange : (r : Result Scrub SscError) → IfOk r (λ scrub. (s : CacheList) → Holds c old s → (scrub.strange ≡ None) ↔ AreOwn s) → IfOk r (λ scrub. scrub.strange ≡ None)
+    none_strange (Ok scrub) found = (found own.list own.holds).1 own.own
+    none_strange (Err e) found = tt
 
 -- ---- lists
 
@@ -53,7 +67,7 @@ own_answered g x old new after own =
     let now = list_as new.now (stepped x after.left) after.now (stepped_own x after.left left) in (
       now,
       elim after.durable [
-        | inl loses ↦ λ a. own_as a (get new.durable a) (unless_gone (get old.now a) (get after.left a) (get old.durable a)) (loses a) (own_unless a (get old.now a) (get after.left a) (get old.durable a) (own.1 a))
+        | inl k ↦ list_as new.durable old.durable k.1 own.1
         | inr d ↦ elim d [ inl is ↦ list_as new.durable after.left is left | inr is ↦ list_as new.durable new.now is now ]
       ],
     )

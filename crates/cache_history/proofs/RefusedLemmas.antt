@@ -10,7 +10,7 @@ use Rattle.ssc.specs.declared.cache.Ssc.{Ssc}
 use Rattle.ssc.specs.declared.error.SscError.{SscError}
 use Rattle.ssc.specs.declared.error.SscError.TheVariants.{Full, FlashFault, PowerLost, OutOfMemory}
 use Rattle.ssc.specs.Errors.{stops}
-use Rattle.ssc.specs.CacheState.{Holds, IsAsBefore, pending}
+use Rattle.ssc.specs.CacheState.{Holds, HoldsBeside, IsAsBefore}
 use Rattle.cache_history.specs.History.{TwoLists}
 use Rattle.cache_history.specs.Moment.{IsMoment}
 
@@ -34,13 +34,12 @@ module _ (c d : Ssc) (s t : State) where
   full_still : (d ≡ c) × (t ≡ s) → Still
   full_still same l moment = subst (λ (k : Ssc). IsMoment k t.contents l) (sym same.0) (subst (λ (x : State). IsMoment c x.contents l) (sym same.1) moment)
 
-  memory_still : Unchanged → ((contents : Contents) (list : CacheList) → Holds c contents list → Holds d contents list) → Still
-  memory_still same holds l moment = subst (λ (x : State). IsMoment d x.contents l) (sym same.1) (record {
-    holds = holds s.contents l.now moment.holds;
-    durable = moment.durable ∙ ap (λ (q : List Buffered). undo q l.now) (sym (ap pending same.0.parts));
-  })
+  memory_still : Unchanged → ((contents : Contents) (list : CacheList) (h : Holds c contents list) → HoldsBeside d contents list h.waiting) → Still
+  memory_still same holds l moment =
+      let k = holds s.contents l.now moment.holds in
+      subst (λ (x : State). IsMoment d x.contents l) (sym same.1) (record { holds = k.holds; durable = moment.durable ∙ ap (λ (q : List Buffered). undo q l.now) (sym k.same) })
 
-  pub still_of : (r : Result (Unit {0}) SscError) → ((n l : ℕ) → IsErrOf r (Full n l) → (d ≡ c) × (t ≡ s)) → (IsErrOf r OutOfMemory → Unchanged) → (IsErrOf r OutOfMemory → (contents : Contents) (list : CacheList) → Holds c contents list → Holds d contents list) → OnErr r (stops r ≡ false → Still)
+  pub still_of : (r : Result (Unit {0}) SscError) → ((n l : ℕ) → IsErrOf r (Full n l) → (d ≡ c) × (t ≡ s)) → (IsErrOf r OutOfMemory → Unchanged) → (IsErrOf r OutOfMemory → (contents : Contents) (list : CacheList) (h : Holds c contents list) → HoldsBeside d contents list h.waiting) → OnErr r (stops r ≡ false → Still)
   still_of (Ok done) full memory holds = tt
   still_of (Err (Full n l)) full memory holds = λ goes. full_still (full n l refl)
   still_of (Err FlashFault) full memory holds = λ goes. absurd (false≢true (sym goes))

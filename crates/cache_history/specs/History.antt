@@ -1,5 +1,5 @@
 -- The history of a cache, command by command, and the lists of held blocks that it may then have.
-use Rattle.std.specs.Prelude.{◌≡◌, ◌⊎◌, ℕ, ◌&&◌, ◌==◌, Bool, true, false, List, [], ◌∷◌, Option, None, Some}
+use Rattle.std.specs.Prelude.{◌≡◌, ◌⊎◌, ℕ, ◌&&◌, ◌==◌, Bool, true, false, List, [], ◌∷◌, Some}
 use Rattle.std.specs.List.{list_any}
 use Rattle.std.specs.FinMap.{get, empty}
 use Rattle.ft_base.specs.declared.block.Block.{Block}
@@ -8,7 +8,7 @@ use Rattle.cache_model.specs.Cache.{Vanish, written_dirty, written_clean, evicte
 use Rattle.cache_model.specs.CacheList.{Held, CacheList}
 use Rattle.ssc.specs.Commands.{IsHeldIn}
 use Rattle.cache_history.specs.declared.kind.Kind.{Kind}
-use Rattle.cache_history.specs.declared.kind.Kind.TheVariants.{WriteDirty, WriteClean, Evict, Clean, Commit, Checkpoint}
+use Rattle.cache_history.specs.declared.kind.Kind.TheVariants.{WriteDirty, WriteLater, WriteClean, Evict, Clean, Commit, Checkpoint}
 
 -- a command that is given; commit and checkpoint ignore the address, and only writes use the block
 pub record Given : Type 0 where
@@ -31,6 +31,7 @@ pub data CacheEvent : Type 0 where
 -- the list after a command of each kind
 abbrev pub stepped_by : Kind → ℕ → Block → CacheList → CacheList
 stepped_by WriteDirty a block s = written_dirty a block s
+stepped_by WriteLater a block s = written_dirty a block s
 stepped_by WriteClean a block s = written_clean a block s
 stepped_by Evict a block s = evicted a s
 stepped_by Clean a block s = made_clean a s
@@ -53,6 +54,7 @@ both_alike s = record { now = s; durable = s }
 -- evict this holds if the address was held
 abbrev pub IsAtOnce : Kind → ℕ → CacheList → Type 0
 IsAtOnce WriteDirty a s = Unit {0}
+IsAtOnce WriteLater a s = ⊥
 IsAtOnce WriteClean a s = IsHeldIn s a
 IsAtOnce Evict a s = IsHeldIn s a
 IsAtOnce Clean a s = ⊥
@@ -63,6 +65,7 @@ IsAtOnce Checkpoint a s = Unit {0}
 -- to another command
 abbrev pub LeftByKind : Geometry → Kind → ℕ → CacheList → CacheList → Type 0
 LeftByKind g WriteDirty a s v = Vanish g s a v
+LeftByKind g WriteLater a s v = Vanish g s a v
 LeftByKind g WriteClean a s v = Vanish g s a v
 LeftByKind g Evict a s v = v ≡ s
 LeftByKind g Clean a s v = v ≡ s
@@ -72,23 +75,13 @@ LeftByKind g Checkpoint a s v = v ≡ s
 abbrev pub LeftBy : Geometry → Given → CacheList → CacheList → Type 0
 LeftBy g x s v = LeftByKind g x.kind x.address s v
 
--- the block that a crash would leave at an address: none if the held block gave way, else the old one
-abbrev pub unless_gone : Option Held → Option Held → Option Held → Option Held
-unless_gone (Some h) None before = None
-unless_gone (Some h) (Some kept) before = before
-unless_gone None left before = before
-
--- a crash would leave what it would have left before, except for the blocks that gave way
-abbrev pub LosesAlike : TwoLists → CacheList → CacheList → Type 0
-LosesAlike old left durable = (a : ℕ) → get durable a ≡ unless_gone (get old.now a) (get left a) (get old.durable a)
-
--- after `Ok` the step was made on the list that was left. A crash would leave the blocks that it would have left
--- before, except for those that gave way. Or it would leave the list before the step or after it
+-- after `Ok` the step was made on the list that was left. A crash would leave the list that it would have left before, if
+-- nothing gave way. Or it would leave the list before the step or after it
 pub record AfterAnswer (g : Geometry) (x : Given) (old new : TwoLists) : Type 0 where
   pub left : CacheList
   pub left_by : LeftBy g x old.now left
   pub now : new.now ≡ stepped x left
-  pub durable : LosesAlike old left new.durable ⊎ (new.durable ≡ left) ⊎ (new.durable ≡ new.now)
+  pub durable : ((left ≡ old.now) × (new.durable ≡ old.durable)) ⊎ (new.durable ≡ left) ⊎ (new.durable ≡ new.now)
   pub at_once : IsAtOnce x.kind x.address old.now → new.durable ≡ new.now
 
 -- after an error and an opening, the list is the one that a crash would have left before. Or it is the list that was
@@ -122,6 +115,7 @@ Lived g events l = LivedFrom g (both_alike empty) events l
 
 abbrev pub is_write : Kind → Bool
 is_write WriteDirty = true
+is_write WriteLater = true
 is_write WriteClean = true
 is_write Evict = false
 is_write Clean = false
@@ -131,6 +125,7 @@ is_write Checkpoint = false
 -- after a command of this kind the address may no longer be held, or not be dirty
 abbrev pub may_undirty : Kind → Bool
 may_undirty WriteDirty = false
+may_undirty WriteLater = false
 may_undirty WriteClean = true
 may_undirty Evict = true
 may_undirty Clean = true
@@ -139,6 +134,7 @@ may_undirty Checkpoint = false
 
 abbrev pub is_change : Kind → Bool
 is_change WriteDirty = true
+is_change WriteLater = true
 is_change WriteClean = true
 is_change Evict = true
 is_change Clean = true
@@ -159,10 +155,21 @@ concerns kinds a Crashed = false
 abbrev pub NoneIs : (Kind → Bool) → ℕ → List CacheEvent → Type 0
 NoneIs kinds a events = list_any (concerns kinds a) events ≡ false
 
--- the block of the newest write of the address that answered `Ok`, or of a later one that failed
-abbrev pub IsNewest : ℕ → Block → List CacheEvent → Type 0
-IsNewest a block [] = ⊥
-IsNewest a block (Answered x ∷ older) = ((names is_write a x ≡ true) × (block ≡ x.block))
-    ⊎ ((names is_write a x ≡ false) × IsNewest a block older)
-IsNewest a block (Refused x ∷ older) = ((names is_write a x ≡ true) × (block ≡ x.block)) ⊎ IsNewest a block older
-IsNewest a block (Crashed ∷ older) = IsNewest a block older
+-- a crash can't bring back what was there before a write of this kind that answered `Ok`
+abbrev pub is_write_for_good : Kind → Bool
+is_write_for_good WriteDirty = true
+is_write_for_good WriteLater = false
+is_write_for_good WriteClean = true
+is_write_for_good Evict = false
+is_write_for_good Clean = false
+is_write_for_good Commit = false
+is_write_for_good Checkpoint = false
+
+-- the block of the newest write of the address, since the list was `start`, that answered `Ok` and can't be taken back; or of
+-- a later one that failed or may be only buffered; or the list's block, if there was no such write
+abbrev pub IsNewest : CacheList → ℕ → Block → List CacheEvent → Type 0
+IsNewest start a block [] = (h : Held) × (get start a ≡ Some h) × (block ≡ h.block)
+IsNewest start a block (Answered x ∷ older) = ((names is_write a x ≡ true) × (block ≡ x.block))
+    ⊎ ((names is_write_for_good a x ≡ false) × IsNewest start a block older)
+IsNewest start a block (Refused x ∷ older) = ((names is_write a x ≡ true) × (block ≡ x.block)) ⊎ IsNewest start a block older
+IsNewest start a block (Crashed ∷ older) = IsNewest start a block older

@@ -46,6 +46,7 @@ pub fn give<M: Media>(
 {
     match kind {
         Kind::WriteDirty => cache.write_dirty(media, lba, block),
+        Kind::WriteLater => cache.write_later(media, lba, block),
         Kind::WriteClean => cache.write_clean(media, lba, block),
         Kind::Evict => cache.evict(media, lba),
         Kind::Clean => cache.clean(media, lba),

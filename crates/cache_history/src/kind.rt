@@ -3,6 +3,8 @@
 pub enum Kind {
     /// Holds a block at an address, dirty.
     WriteDirty,
+    /// The same, but a crash may bring back what was there before, until the write is committed.
+    WriteLater,
     /// Holds a block at an address, clean.
     WriteClean,
     /// Stops holding an address.

@@ -6,12 +6,13 @@ ghost use Rattle.ft_base.specs.declared.block.Block.{Block};
 ghost use Rattle.ft_base.specs.declared.geometry.Geometry.{Geometry};
 ghost use Rattle.ft_base.specs.Contents.{Contents, Image, Now};
 ghost use Rattle.cache_model.specs.Cache.{AreOwn, dirty_between, written_block};
-ghost use Rattle.cache_model.specs.CacheList.{Held};
+ghost use Rattle.cache_model.specs.CacheList.{CacheList, Held};
 ghost use Rattle.cache_model.specs.Stands.{FlashStandsFor};
 ghost use Rattle.ssc.specs.declared.cache.Ssc.{Ssc};
 ghost use Rattle.ssc.specs.CacheState.{geometry_of};
+ghost use Rattle.ssc.specs.Commands.{IsDirtyIn};
 ghost use Rattle.cache_history.specs.declared.kind.Kind.TheVariants.{Evict, WriteDirty};
-ghost use Rattle.cache_history.specs.History.{CacheEvent, Answered, TwoLists, Lived, LivedFrom, NoneIs, IsNewest, given, is_write, is_change, may_undirty};
+ghost use Rattle.cache_history.specs.History.{CacheEvent, Answered, TwoLists, Lived, LivedFrom, NoneIs, IsNewest, both_alike, given, is_write, is_change, may_undirty};
 ghost use Rattle.cache_history.specs.Moment.{IsMoment};
 
 /// The laws hold over the whole history of a cache that begins empty. Its events are commands that answered `Ok`,
@@ -28,10 +29,21 @@ pub fn history_laws()
     ensures dirty_stays { (g : Geometry) (later before : List CacheEvent) (l : TwoLists) (a : ℕ) (b : Block)
         → Lived g (later ++ Answered (given WriteDirty a b) ∷ before) l → NoneIs is_change a later
         → get l.now a ≡ Some (written_block a b true) }
-    // The held block of an address comes from the newest write of it that answered `Ok`, or from a later one that
-    // failed. It never comes from an older one.
-    ensures newest_is_held { (g : Geometry) (events : List CacheEvent) (l : TwoLists) (a : ℕ) (h : Held) → Lived g events l
-        → get l.now a ≡ Some h → IsNewest a h.block events }
+    // Beginning with one list that is also the durable one, the held block of an address comes from the newest write
+    // of it that answered `Ok` and can't be taken back, or from a later one that failed or may be only buffered. It
+    // never comes from an older one.
+    ensures newest_is_held { (g : Geometry) (start : CacheList) (events : List CacheEvent) (l : TwoLists) (a : ℕ) (h : Held)
+        → LivedFrom g (both_alike start) events l → get l.now a ≡ Some h → IsNewest start a h.block events }
+    // A block that both lists hold dirty at an address stays in both until a write, an evict or a clean of the address
+    // is given, whatever that answers. After a later write this is so once it is committed.
+    ensures committed_stays { (g : Geometry) (start l : TwoLists) (events : List CacheEvent) (a : ℕ) (h : Held)
+        → LivedFrom g start events l → get start.now a ≡ Some h → get start.durable a ≡ Some h → h.dirty ≡ true
+        → NoneIs is_change a events → (get l.now a ≡ Some h) × (get l.durable a ≡ Some h) }
+    // If both lists hold a dirty block at an address, the address is listed as dirty, with whatever block. This ends
+    // when a clean write, an evict or a clean of it is given, whatever that answers.
+    ensures committed_is_listed { (g : Geometry) (start l : TwoLists) (events : List CacheEvent) (a from count : ℕ)
+        → LivedFrom g start events l → IsDirtyIn start.now a → IsDirtyIn start.durable a → NoneIs may_undirty a events → from ≤ a
+        → a < from + count → Contains (dirty_between from count l.now) a }
     // After a dirty write of an address answered `Ok`, the address is listed as dirty, with whatever block. This ends
     // when a clean write, an evict or a clean of it is given, whatever that answers.
     ensures dirty_is_listed { (g : Geometry) (later before : List CacheEvent) (l : TwoLists) (a : ℕ) (b : Block) (from count : ℕ)

@@ -5,13 +5,14 @@ use Rattle.std.proofs.lemmas.Bool.{false≢true}
 use Rattle.ft_base.specs.Contents.{Contents}
 use Rattle.ft_base.specs.declared.geometry.Geometry.{Geometry}
 use Rattle.ft_media.specs.State.{State}
+use Rattle.cache_model.specs.Cache.{Buffered}
 use Rattle.cache_model.specs.CacheList.{CacheList}
 use Rattle.ssc.specs.declared.cache.Ssc.{Ssc}
 use Rattle.ssc.specs.declared.error.SscError.{SscError}
 use Rattle.ssc.specs.declared.error.SscError.TheVariants.{Full, FlashFault, PowerLost, OutOfMemory}
 use Rattle.ssc.specs.Errors.{stops}
 use Rattle.ssc.specs.CacheState.{Holds, IsUp, geometry_of}
-use Rattle.ssc.specs.Commands.{HoldsWritten}
+use Rattle.ssc.specs.Commands.{HoldsBuffered, HoldsWritten}
 use Rattle.cache_rows.specs.Fits.{FitTogether}
 
 up_same : (c d : Ssc) (a b : State) → (d ≡ c) × (b ≡ a) → IsUp c a.contents → IsUp d b.contents
@@ -63,6 +64,14 @@ fit_written r going stopped c d a b lba f fit is_going is_stopped same stops_so 
           up_some r c d a b up stops_so (on_ok r (λ (k : (s : CacheList) → Holds c a.contents s → HoldsWritten d b.contents s lba f). let w = k up.list up.holds in (f w.left, w.holds)) holds) full memory
           (going_on stopped d is_stopped goes_on);
     }
+
+-- a write that may wait
+pub fit_buffered : (r : Result (Unit {0}) SscError) (going stopped : Bool) (c d : Ssc) (a b : State) (lba : ℕ) (f : CacheList → CacheList) (own : CacheList → Buffered) → FitTogether going c a.contents → going ≡ true → stopped ≡ d.stopped → geometry_of d ≡ geometry_of c
+    → d.stopped ≡ stops r → OnOk r ((s : CacheList) (h : Holds c a.contents s) → HoldsBuffered d b.contents s h.waiting lba f own) → ((n l : ℕ) → IsErrOf r (Full n l) → (d ≡ c) × (b ≡ a)) → (IsErrOf r OutOfMemory → StillHolds c d a b)
+    → FitTogether (not stopped) d b.contents
+fit_buffered r going stopped c d a b lba f own fit is_going is_stopped same stops_so holds full memory =
+    fit_written r going stopped c d a b lba f fit is_going is_stopped same stops_so
+    (on_ok r (λ (k : (s : CacheList) (h : Holds c a.contents s) → HoldsBuffered d b.contents s h.waiting lba f own). λ s h. let w = k s h in record { left = w.left; vanish = w.vanish; holds = w.holds }) holds) full memory
 
 -- any other command
 pub fit_after : (r : Result (Unit {0}) SscError) (going stopped : Bool) (c d : Ssc) (a b : State) (f : CacheList → CacheList) → FitTogether going c a.contents → going ≡ true → stopped ≡ d.stopped → geometry_of d ≡ geometry_of c → d.stopped ≡ stops r

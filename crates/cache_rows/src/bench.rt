@@ -157,6 +157,8 @@ pub(crate) enum Fact {
     OpenRoom(u32),
     /// How many changes are buffered.
     Buffered(u32),
+    /// How many of them are writes.
+    Later(u32),
     /// The buckets of the map of page-mapped addresses.
     Buckets(u64),
 }
@@ -316,6 +318,16 @@ impl Bench {
         answer
     }
 
+    fn write_later(&mut self, lba: u64, tag: u64) -> Result<(), SscError>
+        requires going { self.old ≡ true }
+        requires lba { lba < 64 }
+    {
+        let block = block_of(lba, tag);
+        let answer = self.cache.write_later(&mut self.rig, lba, &block);
+        self.going = !self.cache.is_stopped();
+        answer
+    }
+
     fn write_clean(&mut self, lba: u64, tag: u64) -> Result<(), SscError>
         requires going { self.old ≡ true }
         requires lba { lba < 64 }
@@ -367,6 +379,7 @@ impl Bench {
         }
         match *step {
             Step::WriteDirty(lba, tag) if lba < SIZE => Some(self.write_dirty(lba, tag)),
+            Step::WriteLater(lba, tag) if lba < SIZE => Some(self.write_later(lba, tag)),
             Step::WriteClean(lba, tag) if lba < SIZE => Some(self.write_clean(lba, tag)),
             Step::Evict(lba) if lba < SIZE => Some(self.evict(lba)),
             Step::Clean(lba) if lba < SIZE => Some(self.clean(lba)),
@@ -546,6 +559,7 @@ impl Bench {
             Fact::Held(count) => self.cache.held() == count,
             Fact::OpenRoom(pages) => self.cache.open_room() == pages,
             Fact::Buffered(count) => self.cache.buffered() == count,
+            Fact::Later(count) => self.cache.later() == count,
             Fact::Buckets(count) => self.cache.buckets() == count,
         }
     }

@@ -15,6 +15,8 @@ mod foreign;
 #[cfg(test)]
 mod groups;
 #[cfg(test)]
+mod later;
+#[cfg(test)]
 mod lists;
 #[cfg(test)]
 mod merges;

@@ -5,6 +5,7 @@ ghost use Rattle.std.specs.Prelude.{◌<◌};
 #[derive(Clone, Copy)]
 pub(crate) enum Step {
     WriteDirty(u64, u64),
+    WriteLater(u64, u64),
     WriteClean(u64, u64),
     Evict(u64),
     Clean(u64),
@@ -49,6 +50,7 @@ pub(crate) fn lists_of(held: &[(u64, Held)]) -> Lists {
 fn lba_of(step: &Step) -> u64 {
     match *step {
         Step::WriteDirty(lba, _) => lba,
+        Step::WriteLater(lba, _) => lba,
         Step::WriteClean(lba, _) => lba,
         Step::Evict(lba) => lba,
         Step::Clean(lba) => lba,
@@ -59,7 +61,7 @@ fn lba_of(step: &Step) -> u64 {
 /// The content of an address after a command.
 fn held_after(old: Held, step: &Step) -> Held {
     match *step {
-        Step::WriteDirty(_, tag) => Held::Dirty(tag),
+        Step::WriteDirty(_, tag) | Step::WriteLater(_, tag) => Held::Dirty(tag),
         Step::WriteClean(_, tag) => Held::Clean(tag),
         Step::Evict(_) => Held::Nothing,
         Step::Clean(_) => cleaned(old),
@@ -79,7 +81,7 @@ fn commits(old: Held, step: &Step) -> bool {
     match *step {
         Step::WriteDirty(_, _) | Step::Commit | Step::Checkpoint => true,
         Step::WriteClean(_, _) | Step::Evict(_) => old != Held::Nothing,
-        Step::Clean(_) => false,
+        Step::WriteLater(_, _) | Step::Clean(_) => false,
     }
 }
 
@@ -94,7 +96,8 @@ pub(crate) fn give(lists: &mut Lists, step: &Step) {
 }
 
 /// Whether this list may be left if the command after `given` of these was cut. It is the list before the command
-/// without the buffered changes, that list, or the list after the command.
+/// without the buffered changes, that list, or the list after the command. A later write may have committed what was
+/// buffered before it.
 pub(crate) fn may_be_left(
     lists: &Lists,
     steps: &[Step],
@@ -106,14 +109,26 @@ pub(crate) fn may_be_left(
         return false;
     }
     let mut lists = *lists;
+    let mut is_durable = is_left(&lists.durable, found, gives_way);
     for step in &steps[..given] {
+        let is_before = is_left(&lists.now, found, gives_way);
         give(&mut lists, step);
+        is_durable = is_durable_after(is_durable, is_before, step)
+            || is_left(&lists.durable, found, gives_way);
     }
-    if is_left(&lists.durable, found, gives_way) || is_left(&lists.now, found, gives_way) {
+    if is_durable || is_left(&lists.now, found, gives_way) {
         return true;
     }
     give(&mut lists, &steps[given]);
     is_left(&lists.now, found, gives_way)
+}
+
+/// Whether a crash may leave a list after a command, if it might leave it before, or the list was held before.
+fn is_durable_after(is_durable: bool, is_before: bool, step: &Step) -> bool {
+    match *step {
+        Step::WriteLater(_, _) => is_durable || is_before,
+        _ => false,
+    }
 }
 
 /// Whether all of a list is found, or all but clean groups that gave way.

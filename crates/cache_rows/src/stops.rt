@@ -192,6 +192,34 @@ fn a_failed_call_of_a_merge_loses_nothing(rt: HostRuntime) {
     assert_eq!(rt; count_kept(rt.alloc(), &MERGE), Some(28));
 }
 
+// ---- later writes
+
+/// The first write merges both groups, and one of the others merges blocks that were only buffered.
+const LATER_WRITES: [Step; 10] = [
+    Step::WriteLater(4, 2),
+    Step::WriteLater(4, 3),
+    Step::WriteLater(0, 2),
+    Step::WriteLater(1, 2),
+    Step::WriteLater(0, 3),
+    Step::WriteLater(5, 2),
+    Step::WriteLater(6, 2),
+    Step::WriteLater(4, 4),
+    Step::WriteLater(2, 2),
+    Step::Commit,
+];
+
+const LATER: Story = Story {
+    begun: &FULL_LOG_BLOCKS,
+    stopped: &LATER_WRITES,
+    is_opening_cut: false,
+    gives_way: false,
+};
+
+#[test]
+fn a_stop_at_each_device_write_of_later_writes_loses_nothing_older(rt: HostRuntime) {
+    assert_eq!(rt; first_losing(rt.alloc(), &LATER, 21), None);
+}
+
 // ---- an eviction
 
 /// Two clean groups have a data block, and a third one lies in a log block, not in order.

@@ -22,35 +22,44 @@ use Rattle.cache_model.proofs.CountLemmas.{taken}
 use Rattle.cache_model.proofs.UndoLemmas.{back_at, get_undo, undone_at}
 use Rattle.op_log.specs.Log.{FitsOn}
 use Rattle.ssc.specs.declared.cache.Ssc.{Ssc}
-use Rattle.ssc.specs.CacheState.{Holds, IsUp, geometry_of, pending}
+use Rattle.ssc.specs.CacheState.{Holds, HoldsBeside, IsUp, geometry_of, pending}
 use Rattle.ssc.specs.Commands.{ReadOf}
-use Rattle.ssc.proofs.HoldsLemmas.{none_written}
+use Rattle.ssc.proofs.HoldsLemmas.{same_waiting}
 use Rattle.cached_disk.specs.declared.disk.CachedDisk.{CachedDisk}
-use Rattle.cached_disk.specs.Kept.{IsBeneath, IsDirtyIn, IsHeld, IsInserted, IsLeft, MayUndo, is_down, told_of}
+use Rattle.cached_disk.specs.Kept.{EachAgrees, IsBeneath, IsDirtyIn, IsHeld, IsInserted, IsLeft, MayUndo, is_down, told_of}
 use Rattle.cached_disk.proofs.DiskLemmas.{Had, IsOver, agrees_fewer, one_of_any, over_fewer, over_stands, stands_over}
 use Rattle.cached_disk.proofs.StepLemmas.{over_same, same_back, undo_agrees, undo_dirty, undo_same}
 
 -- ---- the list that the cache holds doesn't depend on the disk
 
-holds_beside : (c : Ssc) (old : Contents) (disk : ℕ → Values) (s : CacheList) → Holds c old s → Holds c (record old { disk = disk }) s
+holds_beside : (c : Ssc) (old : Contents) (disk : ℕ → Values) (s : CacheList) (h : Holds c old s) → HoldsBeside c (record old { disk = disk }) s h.waiting
 holds_beside c old disk s holds =
     let sound = holds.agree.sound in
     record {
-      agree = record {
-        sound = record { of_one = sound.of_one; shape = sound.shape; current = sound.current; whole = sound.whole; roles = sound.roles; log_blocks = sound.log_blocks; open_block = sound.open_block };
-        open_log = holds.agree.open_log;
+      holds = record {
+        agree = record {
+          sound = record { of_one = sound.of_one; shape = sound.shape; current = sound.current; whole = sound.whole; roles = sound.roles; log_blocks = sound.log_blocks; open_block = sound.open_block };
+          open_log = holds.agree.open_log;
+        };
+        waiting = holds.waiting;
+        shapes = holds.shapes;
+        kinds = holds.kinds;
+        lists = holds.lists;
+        waits = holds.waits;
+        memory = holds.memory;
+        few = holds.few;
+        places = holds.places;
       };
-      lists = holds.lists;
-      kinds = holds.kinds;
-      waits = holds.waits;
-      memory = holds.memory;
-      few = holds.few;
+      same = refl;
     }
 
-pub holds_over : (c : Ssc) (old new : Contents) (s : CacheList) → new.flash ≡ old.flash → new.shape ≡ old.shape → Holds c old s → Holds c new s
-holds_over c old new s flash shape holds =
+pub beside_over : (c : Ssc) (old new : Contents) (s : CacheList) → new.flash ≡ old.flash → new.shape ≡ old.shape → (h : Holds c old s) → HoldsBeside c new s h.waiting
+beside_over c old new s flash shape h =
     let same : new ≡ record old { disk = new.disk } = ap₂ (λ (x : Shape) (f : Flash). record { shape = x; flash = f; disk = new.disk }) shape flash in
-    subst (λ (x : Contents). Holds c x s) (sym same) (holds_beside c old new.disk s holds)
+    subst (λ (x : Contents). HoldsBeside c x s h.waiting) (sym same) (holds_beside c old new.disk s h)
+
+pub holds_over : (c : Ssc) (old new : Contents) (s : CacheList) → new.flash ≡ old.flash → new.shape ≡ old.shape → Holds c old s → Holds c new s
+holds_over c old new s flash shape h = (beside_over c old new s flash shape h).holds
 
 -- flash that stands for a list by the cache's geometry does so by the options' geometry, if they are equal
 pub own_flash : (v : CachedDisk) → geometry_of v.cache ≡ v.options.geometry → (page : Place → Page) (list : CacheList) → FlashStandsFor (geometry_of v.cache) page list → FlashStandsFor v.options.geometry page list
@@ -74,9 +83,46 @@ module _ (a : ℕ) (h : Held) where
   undone_was [] all o at = at
   undone_was (x ∷ q) all o at = undone_was q all.1 o (back_was x all.0 (undone_at q a o) at)
 
-pub suits_undone : (mode : Mode) (q : List Buffered) (s : CacheList) → MayUndo mode q → Suits mode s → Suits mode (undo q s)
+pub suits_undone : (mode : Mode) (q : List Buffered) (s : CacheList) → (mode ≡ Through → AllByRecursion IsInserted q) → Suits mode s → Suits mode (undo q s)
 suits_undone Back q s may suits = tt
-suits_undone Through q s may suits = λ a h at. suits a h (undone_was a h q may (get s a) (sym (get_undo q s a) ∙ at))
+suits_undone Through q s may suits = λ a h at. suits a h (undone_was a h q (may refl) (get s a) (sym (get_undo q s a) ∙ at))
+
+-- ---- at each command that is buffered
+
+-- the newest list agrees
+pub last_agrees : (q : List Buffered) (s : CacheList) (disk : ℕ → Values) → EachAgrees q s disk → Agrees s disk
+last_agrees [] s disk each = each
+last_agrees (b ∷ q) s disk each = last_agrees q s disk each.1
+
+-- if no write waits, the older lists agree with it
+pub each_agrees : (q : List Buffered) (s : CacheList) (disk : ℕ → Values) → list_any is_write q ≡ false → Agrees s disk → EachAgrees q s disk
+each_agrees [] s disk none agrees = agrees
+each_agrees (b ∷ q) s disk none agrees =
+    let p = or_parts (is_write b) (list_any is_write q) none in
+    (undo_agrees disk s agrees (b ∷ q) none, each_agrees q s disk p.1 agrees)
+
+pub held_agrees : (v : CachedDisk) (contents : Contents) (s : CacheList) → IsHeld v contents s → Agrees s contents.disk
+held_agrees v contents s is = last_agrees is.holds.waiting s contents.disk is.agrees
+
+-- a write is on the media when it answers, so none waits
+pub none_later : (v : CachedDisk) → MayUndo (told_of v) (pending v.cache) → (contents : Contents) (s : CacheList) (h : Holds v.cache contents s) → (h.waiting ≡ pending v.cache) × (list_any is_write h.waiting ≡ false)
+none_later v may contents s h =
+    let none = may.at_write refl in
+    let same = same_waiting v.cache contents s h none in
+    (same, ap (list_any is_write) same ∙ none)
+
+-- so the newest list says all
+pub held_at_write : (v : CachedDisk) (contents : Contents) (s : CacheList) → Holds v.cache contents s → Agrees s contents.disk → ((a : ℕ) → ((contents.disk a).earlier ≡ []) ⊎ IsDirtyIn s a) → Suits v.mode s → MayUndo (told_of v) (pending v.cache) → IsHeld v contents s
+held_at_write v contents s h agrees settled suits may =
+    let none = (none_later v may contents s h).1 in
+    record {
+      holds = h;
+      agrees = each_agrees h.waiting s contents.disk none agrees;
+      settled = settled;
+      beneath = λ a. elim (settled a) [ inl alone ↦ inl alone | inr dirty ↦ inr (undo_dirty (geometry_of v.cache) h.waiting s none h.waits a dirty) ];
+      suits = suits;
+      may_undo = may;
+    }
 
 -- ---- while the volume is up
 
@@ -90,10 +136,14 @@ goes_on v up = or_parts v.down v.cache.stopped up
 -- the volume holds a list: then a crash leaves that list without the buffered changes, and both are one plain disk
 module _ (v : CachedDisk) (contents : Contents) (s : CacheList) (own : geometry_of v.cache ≡ v.options.geometry) (is : IsHeld v contents s) where
   abbrev pub undone : CacheList
-  undone = undo (pending v.cache) s
+  undone = undo is.holds.waiting s
 
-  none_waits : list_any is_write (pending v.cache) ≡ false
-  none_waits = none_written v.cache.parts.log.buffered
+  none_waits : list_any is_write is.holds.waiting ≡ false
+  none_waits = (none_later v is.may_undo contents s is.holds).1
+
+  -- a crash undoes the changes in the log's buffer
+  pub undone_is : undone ≡ undo (pending v.cache) s
+  undone_is = ap (λ (q : List Buffered). undo q s) (none_later v is.may_undo contents s is.holds).0
 
   undone_stands : FlashStandsFor v.options.geometry contents.flash.page undone
   undone_stands = subst (λ (g : Geometry). FlashStandsFor g contents.flash.page undone) own is.holds.lists.stands
@@ -101,15 +151,15 @@ module _ (v : CachedDisk) (contents : Contents) (s : CacheList) (own : geometry_
   pub held_beneath : IsBeneath (told_of v) contents undone
   held_beneath = record {
     flash = undone_stands;
-    agrees = undo_agrees contents.disk s is.agrees (pending v.cache) none_waits;
-    suits = suits_undone v.mode (pending v.cache) s is.undo is.suits;
+    agrees = undo_agrees contents.disk s (held_agrees v contents s is) is.holds.waiting none_waits;
+    suits = suits_undone v.mode is.holds.waiting s (λ t. subst (AllByRecursion IsInserted) (sym (none_later v is.may_undo contents s is.holds).0) (is.may_undo.through t)) is.suits;
   }
 
   pub undone_over : (d : PlainDisk) → IsOver v.options.geometry s contents.disk d → IsOver v.options.geometry undone contents.disk d
-  undone_over d over = over_same v.options.geometry contents.disk s undone d (undo_same contents.disk s is.agrees (geometry_of v.cache) (pending v.cache) none_waits is.holds.waits) over
+  undone_over d over = over_same v.options.geometry contents.disk s undone d (undo_same contents.disk s (held_agrees v contents s is) (geometry_of v.cache) is.holds.waiting none_waits is.holds.waits) over
 
   undone_dirty : (a : ℕ) → IsDirtyIn s a → IsDirtyIn undone a
-  undone_dirty = undo_dirty (geometry_of v.cache) (pending v.cache) s none_waits is.holds.waits
+  undone_dirty = undo_dirty (geometry_of v.cache) is.holds.waiting s none_waits is.holds.waits
 
   pub held_left : FitsOn v.options.geometry contents.shape → IsLeft v contents
   held_left shape = record { own = own; shape = shape; list = undone; beneath = held_beneath; held = s; up = λ up. is }
@@ -117,7 +167,7 @@ module _ (v : CachedDisk) (contents : Contents) (s : CacheList) (own : geometry_
   -- the list that it holds is the plain disk for which the media stand
   pub held_over : (d : PlainDisk) → StandFor (ImageIs (told_of v)) contents d → IsOver v.options.geometry s contents.disk d
   held_over d stand =
-      over_same v.options.geometry contents.disk undone s d (same_back contents.disk s undone (undo_same contents.disk s is.agrees (geometry_of v.cache) (pending v.cache) none_waits is.holds.waits))
+      over_same v.options.geometry contents.disk undone s d (same_back contents.disk s undone (undo_same contents.disk s (held_agrees v contents s is) (geometry_of v.cache) is.holds.waiting none_waits is.holds.waits))
       (stands_over (told_of v) contents undone undone_stands d stand)
 
   pub held_stands : (d : PlainDisk) → IsOver v.options.geometry s contents.disk d → StandFor (ImageIs (told_of v)) contents d
@@ -178,14 +228,9 @@ module _ (v : CachedDisk) (c : Ssc) (old new : Contents) (stays : Stays old new)
     step_beneath stands = record { flash = stands; agrees = agrees_fewer t old.disk new.disk stays.had agrees; suits = suits }
 
     -- the call was done: the cache holds this list
-    pub step_held : IsHeld v old s → Holds c new t → ((a : ℕ) → IsDirtyIn s a → IsDirtyIn t a) → MayUndo v.mode (pending c) → IsHeld stepped new t
-    step_held is holds keeps may = record {
-      holds = holds;
-      agrees = agrees_fewer t old.disk new.disk stays.had agrees;
-      settled = λ a. elim (is.settled a) [ inl none ↦ inl (stays.settled a none) | inr dirty ↦ inr (keeps a dirty) ];
-      suits = suits;
-      undo = may;
-    }
+    pub step_held : IsHeld v old s → Holds c new t → ((a : ℕ) → IsDirtyIn s a → IsDirtyIn t a) → MayUndo (told_of v) (pending c) → IsHeld stepped new t
+    step_held is holds keeps may = held_at_write stepped new t holds (agrees_fewer t old.disk new.disk stays.had agrees)
+        (λ a. elim (is.settled a) [ inl none ↦ inl (stays.settled a none) | inr dirty ↦ inr (keeps a dirty) ]) suits may
 
   -- the plain disk over fewer values
   pub step_over : (t : CacheList) (d : PlainDisk) → IsOver v.options.geometry t old.disk d → IsOver v.options.geometry t new.disk d

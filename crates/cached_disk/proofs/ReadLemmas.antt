@@ -1,17 +1,16 @@
 -- A step that keeps the plain disk: a commit, and a block that comes clean from the disk.
-use Rattle.std.proofs.Common.{◌≡◌, ℕ, ◌-◌, ◌*◌, ◌^◌, ◌<◌, ◌≤◌, ◌||◌, nat_le, Bool, true, false, cond, List, [], ◌∷◌, ◌++◌, Option, Some, None, Result, Ok, Err, inl, inr, refl, sym, ◌∙◌, ap, subst, arith}
-use Rattle.std.specs.List.{AllByRecursion}
+use Rattle.std.proofs.Common.{◌≡◌, ◌⊎◌, ℕ, ◌-◌, ◌*◌, ◌^◌, ◌<◌, ◌≤◌, ◌||◌, nat_le, Bool, true, false, cond, List, [], ◌∷◌, ◌++◌, Option, Some, None, Result, Ok, Err, inl, inr, refl, sym, ◌∙◌, ap, subst, arith}
+use Rattle.std.specs.List.{AllByRecursion, list_any}
 use Rattle.std.specs.FinMap.{get}
 use Rattle.std.specs.Option.{is_some}
 use Rattle.std.specs.Prelude.{OnOk, is_err}
-use Rattle.std.proofs.lemmas.Bool.{false≢true, le-leb, lt-leb}
+use Rattle.std.proofs.lemmas.Bool.{false≢true, le-leb, lt-leb, or_parts}
 use Rattle.std.proofs.lemmas.Nat.{mul-le}
 use Rattle.ft_base.specs.declared.block.Block.{Block}
 use Rattle.ft_base.specs.declared.block.Place.{Place}
 use Rattle.ft_base.specs.declared.block.Page.{Page}
 use Rattle.ft_base.specs.declared.geometry.Geometry.{Geometry}
-use Rattle.ft_base.specs.declared.told.Mode.{Mode}
-use Rattle.ft_base.specs.declared.told.Mode.TheVariants.{Back, Through}
+use Rattle.ft_base.specs.Told.{Told}
 use Rattle.ft_base.specs.Contents.{Contents, HasValue, Shape}
 use Rattle.ft_base.specs.Layout.{log_pages}
 use Rattle.ft_base.specs.PlainDisk.{PlainDisk}
@@ -22,36 +21,49 @@ use Rattle.ft_volume.specs.Volume.{Reads}
 use Rattle.ft_volume.specs.Standing.{StandFor}
 use Rattle.ft_volume.specs.Volume as calls
 use Rattle.ft_volume.specs.declared.volume.Idled.TheVariants.{Nothing, Checkpointed}
-use Rattle.cache_model.specs.Cache.{Buffered, Inserted, Vanish, undo, written_block, written_clean}
+use Rattle.cache_model.specs.Cache.{Buffered, Inserted, Vanish, is_write, undo, written_block, written_clean}
 use Rattle.cache_model.specs.CacheList.{Agrees, CacheList, Held}
 use Rattle.cache_model.specs.Stands.{FlashStandsFor}
 use Rattle.op_log.specs.Log.{FitsOn}
 use Rattle.ssc.specs.declared.cache.Ssc.{Ssc}
-use Rattle.ssc.specs.CacheState.{Holds, entries_of, geometry_of, pending}
+use Rattle.ssc.specs.CacheState.{Holds, HoldsBeside, entries_of, geometry_of, pending}
 use Rattle.ssc.specs.Commands.{HoldsWritten, PendsWith, FlashStandsForOne, FlashStandsForWrite, AsUndone, AsBefore, AsAfter, AsLeft, AsWritten}
 use Rattle.cached_disk.specs.declared.disk.CachedDisk.{CachedDisk}
-use Rattle.cached_disk.specs.Kept.{IsBeneath, IsDirtyIn, IsHeld, IsInserted, IsLeft, MayUndo, dirty_of, is_down, told_of}
+use Rattle.cached_disk.specs.Kept.{EachAgrees, IsBeneath, IsDirtyIn, IsHeld, IsInserted, IsLeft, MayUndo, dirty_of, is_down, told_of}
 use Rattle.cached_disk.proofs.AddressLemmas.{holds_held, holds_lbas, lbas_same, written_held}
 use Rattle.cached_disk.proofs.CallLemmas.{held_along}
 use Rattle.cached_disk.proofs.DiskLemmas.{IsOver, one_value, over_stands}
-use Rattle.cached_disk.proofs.HeldLemmas.{Stays, down_left, drove, goes_on, held_beneath, held_left, held_over, held_stands, own_flash, step_beneath, step_held, step_over, suits_less, undone_over}
+use Rattle.cached_disk.proofs.HeldLemmas.{Stays, down_left, drove, goes_on, held_agrees, held_beneath, held_left, held_over, held_stands, own_flash, step_beneath, step_held, step_over, suits_less, undone_over}
 use Rattle.cached_disk.proofs.StepLemmas.{clean_agrees, clean_dirty, clean_dirty_was, clean_same, clean_was, left_there, over_same, vanish_agrees, vanish_dirty, vanish_same, vanish_was}
 
 -- ---- the changes that a crash may undo
 
-pub may_none : (mode : Mode) (q : List Buffered) → q ≡ [] → MayUndo mode q
-may_none Back q none = tt
-may_none Through q none = subst (AllByRecursion IsInserted) (sym none) tt
+pub may_none : (told : Told) (q : List Buffered) → q ≡ [] → MayUndo told q
+may_none told q none = record { through = λ t. subst (AllByRecursion IsInserted) (sym none) tt; at_write = λ t. ap (list_any is_write) none }
 
 all_more : (q : List Buffered) (a : ℕ) → AllByRecursion IsInserted q → AllByRecursion IsInserted (q ++ Inserted a ∷ [])
 all_more [] a all = (tt, tt)
 all_more (x ∷ q) a all = (all.0, all_more q a all.1)
 
-pub may_more : (mode : Mode) (old new : List Buffered) (a : ℕ) → PendsWith old new (Inserted a) → MayUndo mode old → MayUndo mode new
-may_more Back old new a pends may = tt
-may_more Through old new a (inl more) may = subst (AllByRecursion IsInserted) (sym more) (all_more old a may)
-may_more Through old new a (inr (inl one)) may = subst (AllByRecursion IsInserted) (sym one) (tt, tt)
-may_more Through old new a (inr (inr none)) may = subst (AllByRecursion IsInserted) (sym none) tt
+none_more : (q : List Buffered) (x : Buffered) → is_write x ≡ false → list_any is_write q ≡ false → list_any is_write (q ++ x ∷ []) ≡ false
+none_more [] x own none = ap (λ b. b || list_any is_write []) own
+none_more (y ∷ q) x own none =
+    let p = or_parts (is_write y) (list_any is_write q) none in
+    ap (λ b. b || list_any is_write (q ++ x ∷ [])) p.0 ∙ none_more q x own p.1
+
+-- no write waits after a change that is none
+pub none_pends : (old new : List Buffered) (x : Buffered) → is_write x ≡ false → PendsWith old new x → list_any is_write old ≡ false → list_any is_write new ≡ false
+none_pends old new x own (inl more) none = ap (list_any is_write) more ∙ none_more old x own none
+none_pends old new x own (inr (inl one)) none = ap (list_any is_write) one ∙ none_more [] x own refl
+none_pends old new x own (inr (inr all)) none = ap (list_any is_write) all
+
+pub may_more : (told : Told) (old new : List Buffered) (a : ℕ) → PendsWith old new (Inserted a) → MayUndo told old → MayUndo told new
+may_more told old new a (inl more) may = record {
+  through = λ t. subst (AllByRecursion IsInserted) (sym more) (all_more old a (may.through t));
+  at_write = λ t. none_pends old new (Inserted a) refl (inl more) (may.at_write t);
+}
+may_more told old new a (inr (inl one)) may = record { through = λ t. subst (AllByRecursion IsInserted) (sym one) (tt, tt); at_write = λ t. ap (list_any is_write) one }
+may_more told old new a (inr (inr none)) may = may_none told new none
 
 -- ---- before a write
 
@@ -63,7 +75,7 @@ on_ok_of (Err e) f p = absurd (false≢true (sym f))
 -- the memory of a write was taken, or not: the cache holds the same list
 pub record IsReserved (old new : Ssc) : Type 0 where
   pub geometry : geometry_of new ≡ geometry_of old
-  pub holds : (contents : Contents) (s : CacheList) → Holds old contents s → Holds new contents s
+  pub holds : (contents : Contents) (s : CacheList) (h : Holds old contents s) → HoldsBeside new contents s h.waiting
   pub pending : pending new ≡ pending old
   pub stopped : new.stopped ≡ old.stopped
 
@@ -72,13 +84,16 @@ module _ (v : CachedDisk) (k : Ssc) (reserved : IsReserved v.cache k) where
   reserved_up up = ap (λ b. v.down || b) reserved.stopped ∙ up
 
   reserved_held : (contents : Contents) (s : CacheList) → IsHeld v contents s → IsHeld (record v { cache = k }) contents s
-  reserved_held contents s is = record {
-    holds = reserved.holds contents s is.holds;
-    agrees = is.agrees;
-    settled = is.settled;
-    suits = is.suits;
-    undo = subst (MayUndo v.mode) (sym reserved.pending) is.undo;
-  }
+  reserved_held contents s is =
+      let now = reserved.holds contents s is.holds in
+      record {
+        holds = now.holds;
+        agrees = subst (λ (q : List Buffered). EachAgrees q s contents.disk) (sym now.same) is.agrees;
+        settled = is.settled;
+        beneath = λ a. subst (λ (q : List Buffered). ((contents.disk a).earlier ≡ []) ⊎ IsDirtyIn (undo q s) a) (sym now.same) (is.beneath a);
+        suits = is.suits;
+        may_undo = subst (MayUndo (told_of v)) (sym reserved.pending) is.may_undo;
+      }
 
   -- a read changed nothing of the media
   pub reserved_left : (old new : Contents) → new ≡ old → IsLeft v old → IsLeft (record v { cache = k }) new
@@ -106,19 +121,19 @@ pub record IsShown (v : CachedDisk) (contents : Contents) (s : CacheList) (page 
   pub shows : ShowsSame v contents s list
 
 pub shows_itself : (v : CachedDisk) (contents : Contents) (s : CacheList) → IsHeld v contents s → ShowsSame v contents s s
-shows_itself v contents s is = record { agrees = is.agrees; suits = is.suits; over = λ d over. over }
+shows_itself v contents s is = record { agrees = held_agrees v contents s is; suits = is.suits; over = λ d over. over }
 
 module _ (v : CachedDisk) (contents : Contents) (s : CacheList) (own : geometry_of v.cache ≡ v.options.geometry) (is : IsHeld v contents s) where
-  undone_shown : (page : Place → Page) → FlashStandsFor (geometry_of v.cache) page (undo (pending v.cache) s) → IsShown v contents s page
+  undone_shown : (page : Place → Page) → FlashStandsFor (geometry_of v.cache) page (undo is.holds.waiting s) → IsShown v contents s page
   undone_shown page stands =
       let beneath = held_beneath v contents s own is in
-      record { list = undo (pending v.cache) s; stands = own_flash v own page (undo (pending v.cache) s) stands; shows = record { agrees = beneath.agrees; suits = beneath.suits; over = undone_over v contents s own is } }
+      record { list = undo is.holds.waiting s; stands = own_flash v own page (undo is.holds.waiting s) stands; shows = record { agrees = beneath.agrees; suits = beneath.suits; over = undone_over v contents s own is } }
 
   same_shown : (page : Place → Page) → FlashStandsFor (geometry_of v.cache) page s → IsShown v contents s page
   same_shown page stands = record { list = s; stands = own_flash v own page s stands; shows = shows_itself v contents s is }
 
   -- the list after a commit
-  pub commit_shows : (page : Place → Page) → FlashStandsForOne (geometry_of v.cache) page (undo (pending v.cache) s) s s → IsShown v contents s page
+  pub commit_shows : (page : Place → Page) → FlashStandsForOne (geometry_of v.cache) page (undo is.holds.waiting s) s s → IsShown v contents s page
   commit_shows page (AsUndone x) = undone_shown page x
   commit_shows page (AsBefore x) = same_shown page x
   commit_shows page (AsAfter x) = same_shown page x
@@ -128,9 +143,9 @@ module _ (v : CachedDisk) (contents : Contents) (s : CacheList) (own : geometry_
     module _ (w : CacheList) (vanish : Vanish v.options.geometry s lba w) where
       left_shows : ShowsSame v contents s w
       left_shows = record {
-        agrees = vanish_agrees v.options.geometry s w lba vanish contents.disk is.agrees;
+        agrees = vanish_agrees v.options.geometry s w lba vanish contents.disk (held_agrees v contents s is);
         suits = suits_less v.mode s w is.suits (λ a h at. inr (left_there v.options.geometry s w lba vanish a h at));
-        over = λ d over. over_same v.options.geometry contents.disk s w d (vanish_same v.options.geometry s w lba vanish contents.disk is.agrees) over;
+        over = λ d over. over_same v.options.geometry contents.disk s w d (vanish_same v.options.geometry s w lba vanish contents.disk (held_agrees v contents s is)) over;
       }
 
       none_left : IsDirtyIn w lba → ⊥
@@ -153,7 +168,7 @@ module _ (v : CachedDisk) (contents : Contents) (s : CacheList) (own : geometry_
     own_vanish w vanish = subst (λ (g : Geometry). Vanish g s lba w) own vanish
 
     -- whenever it was cut
-    pub write_shows : (page : Place → Page) → FlashStandsForWrite (geometry_of v.cache) page (undo (pending v.cache) s) s lba (written_clean lba block) → IsShown v contents s page
+    pub write_shows : (page : Place → Page) → FlashStandsForWrite (geometry_of v.cache) page (undo is.holds.waiting s) s lba (written_clean lba block) → IsShown v contents s page
     write_shows page (AsUndone x) = undone_shown page x
     write_shows page (AsLeft w vanish x) = record { list = w; stands = own_flash v own page w x; shows = left_shows w (own_vanish w vanish) }
     write_shows page (AsWritten w vanish x) = record { list = written_clean lba block w; stands = own_flash v own page (written_clean lba block w) x; shows = clean_shows w (own_vanish w vanish) }
@@ -216,7 +231,7 @@ module _ (v : CachedDisk) (c : Ssc) (old new : Contents) (s : CacheList) (by : D
 
   -- the call was done: the cache holds the list
   module _ (holds : Holds c new t) (keeps : (a : ℕ) → IsDirtyIn s a → IsDirtyIn t a) where
-    module _ (may : MayUndo v.mode (pending c)) where
+    module _ (may : MayUndo (told_of v) (pending c)) where
       held_after : IsHeld (record v { cache = c }) new t
       held_after = step_held v c old new by.stays s t shows.agrees shows.suits by.is holds keeps may
 
@@ -250,8 +265,8 @@ module _ (v : CachedDisk) (c : Ssc) (old new : Contents) (s : CacheList) (by : D
     put_keeps = clean_keeps v old s by.own by.is lba block none_dirty only_block h.left vanish_own
 
     module _ (pends : PendsWith (pending v.cache) (pending c) (Inserted lba)) where
-      put_may : MayUndo v.mode (pending c)
-      put_may = may_more v.mode (pending v.cache) (pending c) lba pends by.is.undo
+      put_may : MayUndo (told_of v) (pending c)
+      put_may = may_more (told_of v) (pending v.cache) (pending c) lba pends by.is.may_undo
 
       pub put_left : IsLeft (record v { cache = c }) new
       put_left = done_left v c old new s by (written_clean lba block h.left) put_shows h.holds put_keeps put_may
@@ -267,7 +282,7 @@ module _ (v : CachedDisk) (c : Ssc) (old new : Contents) (s : CacheList) (by : D
         (holds_held v.cache old s by.is.holds) (holds_held c new (written_clean lba block h.left) h.holds) (written_held (told_of v) (Reads lba b) s h.left lba (written_block lba block false) vanish_own refl (λ a is. is))
 
   -- the call failed or was cut
-  module _ (stands : FlashStandsForWrite (geometry_of v.cache) new.flash.page (undo (pending v.cache) s) s lba (written_clean lba block)) where
+  module _ (stands : FlashStandsForWrite (geometry_of v.cache) new.flash.page (undo by.is.holds.waiting s) s lba (written_clean lba block)) where
     shown : IsShown v old s new.flash.page
     shown = write_shows v old s by.own by.is lba block none_dirty only_block new.flash.page stands
 

@@ -41,7 +41,7 @@ use Rattle.ssc.specs.declared.error.SscError.{SscError}
 use Rattle.ssc.specs.declared.error.SscError.TheVariants.{Full, FlashFault, PowerLost, OutOfMemory}
 use Rattle.ssc.specs.CacheState.{Holds, entries_of, geometry_of, pending}
 use Rattle.ssc.specs.Errors.{ssc_failed, ssc_lost}
-use Rattle.ssc.proofs.HoldsLemmas.{waiting-none}
+use Rattle.ssc.proofs.HoldsLemmas.{nothing_waits, waiting-none}
 use Rattle.cached_disk.specs.Errors.{IsOfCache}
 use Rattle.cached_disk.proofs.CallLemmas.{from_none}
 use Rattle.cached_disk.specs.declared.disk.CachedDisk.{CachedDisk}
@@ -224,7 +224,7 @@ module _ (c : Ssc) (contents : Contents) (s : CacheList) (holds : Holds c conten
       ∙ ap Ok (nothing_buffered contents.flash.page c.parts.log (entries_of c) current (waiting-none c.parts.log.buffered none))
 
   stands_itself : FlashStandsFor (geometry_of c) contents.flash.page s
-  stands_itself = subst (λ q. FlashStandsFor (geometry_of c) contents.flash.page (undo q s)) none holds.lists.stands
+  stands_itself = subst (λ q. FlashStandsFor (geometry_of c) contents.flash.page (undo q s)) (nothing_waits c contents s holds none) holds.lists.stands
 
   pub groups_of : length (dirty_groups (geometry_of c) s) ≡ length (groups_with (geometry_of c) (λ e. e.dirty) (entries_of c))
   groups_of =

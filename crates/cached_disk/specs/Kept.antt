@@ -1,9 +1,9 @@
 -- A cache over a disk, and the media that it leaves.
-use Rattle.std.specs.Prelude.{◌≡◌, ◌⊎◌, ◌<◌, ◌≤◌, ◌+◌, ◌/◌, ◌==◌, ◌||◌, ℕ, Bool, true, false, List, [], length, map, filter, Ok, Result, OnOk, OnErr, IfErr, IsErrOf, ⊤}
-use Rattle.std.specs.List.{AllByRecursion}
+use Rattle.std.specs.Prelude.{◌≡◌, ◌⊎◌, ◌<◌, ◌≤◌, ◌+◌, ◌/◌, ◌==◌, ◌||◌, ℕ, Bool, true, false, List, [], ◌∷◌, length, map, filter, Ok, Result, OnOk, OnErr, IfErr, IsErrOf, ⊤}
+use Rattle.std.specs.List.{AllByRecursion, list_any}
 use Rattle.std.specs.FinMap.{get}
 use Rattle.std.specs.Option.{is_some}
-use Rattle.ft_base.specs.Contents.{Contents}
+use Rattle.ft_base.specs.Contents.{Contents, Values}
 use Rattle.ft_base.specs.Count.{RoseBy}
 use Rattle.ft_base.specs.Layout.{log_pages}
 use Rattle.ft_base.specs.PlainDisk.{PlainDisk}
@@ -13,7 +13,8 @@ use Rattle.ft_base.specs.declared.block.Page.{Page}
 use Rattle.ft_base.specs.declared.block.Place.{Place}
 use Rattle.ft_base.specs.declared.geometry.Geometry.{Geometry}
 use Rattle.ft_base.specs.declared.told.Mode.{Mode}
-use Rattle.ft_base.specs.declared.told.Mode.TheVariants.{Back, Through}
+use Rattle.ft_base.specs.declared.told.Ack.TheVariants.{Write as AtWrite}
+use Rattle.ft_base.specs.declared.told.Mode.TheVariants.{Through}
 use Rattle.ft_media.specs.Fitted.{KeepsReady}
 use Rattle.ft_media.specs.Media.{flush_counted}
 use Rattle.ft_media.specs.Passes.{Passes}
@@ -27,7 +28,7 @@ use Rattle.ft_volume.specs.declared.volume.VolumeError.TheVariants.{OutOfVolume}
 use Rattle.cache_model.specs.Loading.{load}
 use Rattle.cache_model.specs.Records.{Entries}
 pub use Rattle.ssc.specs.Commands.{IsDirtyIn}
-use Rattle.cache_model.specs.Cache.{Buffered, Cleaned, Inserted, Written, dirty_between}
+use Rattle.cache_model.specs.Cache.{Buffered, Cleaned, Inserted, Written, dirty_between, is_write, undo}
 use Rattle.cache_model.specs.CacheList.{Agrees, CacheList, vol}
 use Rattle.cache_model.specs.Stands.{FlashStandsFor}
 use Rattle.op_log.specs.Log.{FitsOn}
@@ -81,10 +82,16 @@ IsInserted (Inserted a) = ⊤
 IsInserted (Cleaned a) = ⊥
 IsInserted (Written a old) = ⊥
 
--- the changes that a crash may undo: if the volume writes through, undoing them makes no block dirty
-abbrev pub MayUndo : Mode → List Buffered → Type 0
-MayUndo Back q = ⊤
-MayUndo Through q = AllByRecursion IsInserted q
+-- the changes that a crash may undo: if the volume writes through, undoing them makes no block dirty; and none of them is a write
+-- if each write is on the media when it answers
+pub record MayUndo (told : Told) (q : List Buffered) : Type 0 where
+  pub through : told.mode ≡ Through → AllByRecursion IsInserted q
+  pub at_write : told.ack ≡ AtWrite → list_any is_write q ≡ false
+
+-- the list agrees with the disk, and so does each list that is left when the buffered changes are undone, from the last one on
+abbrev pub EachAgrees : List Buffered → CacheList → (ℕ → Values) → Type 0
+EachAgrees [] s disk = Agrees s disk
+EachAgrees (b ∷ bs) s disk = Agrees (undo (b ∷ bs) s) disk × EachAgrees bs s disk
 
 -- the flash stands for this list, which agrees with the disk
 pub record IsBeneath (told : Told) (contents : Contents) (list : CacheList) : Type 0 where
@@ -92,13 +99,15 @@ pub record IsBeneath (told : Told) (contents : Contents) (list : CacheList) : Ty
   pub agrees : Agrees list contents.disk
   pub suits : Suits told.mode list
 
--- the cache holds this list, which agrees with the disk: only dirty blocks may wait for a flush
+-- the cache holds this list, which agrees with the disk, as does each list without the last changes. Only dirty blocks may wait
+-- for a flush, in this list and in the one that a crash leaves
 pub record IsHeld (v : CachedDisk) (contents : Contents) (list : CacheList) : Type 0 where
   pub holds : Holds v.cache contents list
-  pub agrees : Agrees list contents.disk
+  pub agrees : EachAgrees holds.waiting list contents.disk
   pub settled : (a : ℕ) → ((contents.disk a).earlier ≡ []) ⊎ IsDirtyIn list a
+  pub beneath : (a : ℕ) → ((contents.disk a).earlier ≡ []) ⊎ IsDirtyIn (undo holds.waiting list) a
   pub suits : Suits v.mode list
-  pub undo : MayUndo v.mode (pending v.cache)
+  pub may_undo : MayUndo (told_of v) (pending v.cache)
 
 -- the contents are the ones that the volume left: a crash leaves the list beneath, and while the volume is up it holds
 -- a list

@@ -1,6 +1,6 @@
 //! Pages that can't be read, with parity.
 
-use crate::over::{DEVICES, SMALL, run_failing, run_over};
+use crate::over::{DEVICES, NONE, SMALL, run_failing, run_over};
 use std::alloc::Global;
 use std::process::Abort;
 use std::test::Fail;
@@ -18,7 +18,7 @@ const CALLS: u64 = 200;
 fn calls_of(alloc: Global, devices: &[&str]) -> Result<u64, Fail> {
     let mut calls: u64 = 0;
     for number in 1..CALLS {
-        let run = run_failing(alloc, &[&["replay"], &SMALL, devices], TRACE, &[number])?;
+        let run = run_failing(alloc, &["replay"], &SMALL, devices, TRACE, &[number])?;
         if run.faults == 0 {
             break;
         }
@@ -30,12 +30,12 @@ fn calls_of(alloc: Global, devices: &[&str]) -> Result<u64, Fail> {
 /// The last calls read pages of a complete block, over raw flash too: each of them fails in turn, and nothing is seen of
 /// that.
 fn reads_fail_unseen(rt: &impl Abort, alloc: Global, devices: &[&str]) -> Result<(), Fail> {
-    let whole = run_over(alloc, &[&["replay"], &SMALL], TRACE)?;
+    let whole = run_over(alloc, &["replay"], &SMALL, NONE, TRACE)?;
     let calls = calls_of(alloc, DEVICES[1])?;
-    assert!(rt; calls > READS && calls + 1 < CALLS);
+    assert!(rt; calls > READS && calls.saturating_add(1) < CALLS);
     for back in 0..READS {
         let number = calls.saturating_sub(back);
-        let run = run_failing(alloc, &[&["replay"], &SMALL, devices], TRACE, &[number])?;
+        let run = run_failing(alloc, &["replay"], &SMALL, devices, TRACE, &[number])?;
         assert_eq!(rt; run.status, 0);
         assert_eq!(rt; run.text.as_slice(), whole.text.as_slice());
     }
@@ -58,13 +58,15 @@ fn two_lost_pages_end_the_run(rt: HostRuntime) -> Result<(), Fail> {
     let alloc = rt.alloc();
     let calls = calls_of(alloc, DEVICES[1])?;
     let last = [calls, calls.saturating_add(1)];
-    let run = run_failing(alloc, &[&["replay"], &SMALL, DEVICES[1]], TRACE, &last)?;
+    let run = run_failing(alloc, &["replay"], &SMALL, DEVICES[1], TRACE, &last)?;
     assert_eq!(rt; (run.status, run.faults), (5, 2));
     let one = run_failing(
         alloc,
-        &[&["replay"], &SMALL],
+        &["replay"],
+        &SMALL,
+        NONE,
         TRACE,
-        &[calls_of(alloc, &[])?],
+        &[calls_of(alloc, NONE)?],
     )?;
     assert_eq!(rt; (one.status, one.faults), (5, 1));
     Ok(())

@@ -16,6 +16,9 @@ pub(crate) const SMALL: [&str; 6] = [
     "--dirty=2",
 ];
 
+/// No words: those of the plain devices, and of the default numbers.
+pub(crate) const NONE: &[&str] = &[];
+
 /// The words of the devices but the plain ones: raw flash, parity, and both.
 pub(crate) const DEVICES: [&[&str]; 3] = [
     &["--flash=raw"],
@@ -32,24 +35,36 @@ pub(crate) struct Outcome {
 }
 
 /// The words, one after the other.
-fn words_of(alloc: Global, parts: &[&[&str]]) -> Result<Vec<String>, AllocError> {
+fn words_of(
+    alloc: Global,
+    command: &[&str],
+    numbers: &[&str],
+    devices: &[&str],
+) -> Result<Vec<String>, AllocError> {
     let mut words = Vec::new(alloc);
-    for part in parts {
-        for word in *part {
-            words.push(String::from_str(alloc, word)?)?;
-        }
-    }
+    push_words(alloc, &mut words, command)?;
+    push_words(alloc, &mut words, numbers)?;
+    push_words(alloc, &mut words, devices)?;
     Ok(words)
+}
+
+fn push_words(alloc: Global, words: &mut Vec<String>, more: &[&str]) -> Result<(), AllocError> {
+    for word in more {
+        words.push(String::from_str(alloc, word)?)?;
+    }
+    Ok(())
 }
 
 /// Runs the words with a trace over two rigs, of both of which these calls of the flash fail.
 pub(crate) fn run_failing(
     alloc: Global,
-    parts: &[&[&str]],
+    command: &[&str],
+    numbers: &[&str],
+    devices: &[&str],
     trace: &[u8],
     failing: &[u64],
 ) -> Result<Outcome, AllocError> {
-    let words = words_of(alloc, parts)?;
+    let words = words_of(alloc, command, numbers, devices)?;
     let mut source = MemSource::new(Vec::from_slice(alloc, trace)?, 7, Vec::new(alloc));
     let mut sink = MemSink::new(alloc, 50_000, 100, Vec::new(alloc))?;
     let calls = Vec::from_slice(alloc, failing)?;
@@ -74,8 +89,10 @@ pub(crate) fn run_failing(
 /// Runs them over rigs of which no call fails.
 pub(crate) fn run_over(
     alloc: Global,
-    parts: &[&[&str]],
+    command: &[&str],
+    numbers: &[&str],
+    devices: &[&str],
     trace: &[u8],
 ) -> Result<Outcome, AllocError> {
-    run_failing(alloc, parts, trace, &[])
+    run_failing(alloc, command, numbers, devices, trace, &[])
 }

@@ -1,6 +1,6 @@
 //! The texts of traces over the devices.
 
-use crate::over::{DEVICES, SMALL, run_over};
+use crate::over::{DEVICES, NONE, SMALL, run_over};
 use small_runs::is_plain;
 use std::alloc::Global;
 use std::process::Abort;
@@ -8,11 +8,11 @@ use std::test::Fail;
 
 /// A trace over a small volume prints the same over all devices, and that is what a plain disk prints.
 fn prints_the_same(rt: &impl Abort, alloc: Global, trace: &[u8]) -> Result<(), Fail> {
-    let plain = run_over(alloc, &[&["replay"], &SMALL], trace)?;
+    let plain = run_over(alloc, &["replay"], &SMALL, NONE, trace)?;
     assert_eq!(rt; plain.status, 0);
     assert!(rt; is_plain(alloc, trace, plain.text.as_slice(), 64)?);
     for devices in DEVICES {
-        let other = run_over(alloc, &[&["replay"], &SMALL, devices], trace)?;
+        let other = run_over(alloc, &["replay"], &SMALL, devices, trace)?;
         assert_eq!(rt; other.status, 0);
         assert_eq!(rt; other.text.as_slice(), plain.text.as_slice());
     }
@@ -26,10 +26,10 @@ fn prints_what_a_plain_disk_prints(
     alloc: Global,
     trace: &[u8],
 ) -> Result<(), Fail> {
-    let plain = run_over(alloc, &[&["replay"], &SMALL], trace)?;
+    let plain = run_over(alloc, &["replay"], &SMALL, NONE, trace)?;
     assert_eq!(rt; plain.status, 0);
     for devices in DEVICES {
-        let other = run_over(alloc, &[&["replay"], &SMALL, devices], trace)?;
+        let other = run_over(alloc, &["replay"], &SMALL, devices, trace)?;
         assert_eq!(rt; other.status, 0);
         assert!(rt; is_plain(alloc, trace, other.text.as_slice(), 64)?);
         if devices.len() == 1 {
@@ -44,7 +44,13 @@ fn a_block_is_read_over_all_devices(rt: HostRuntime) -> Result<(), Fail> {
     let alloc = rt.alloc();
     prints_the_same(&rt, alloc, b"w 5 1 7\nr 5 1\nr 6 1\n")?;
     for devices in DEVICES {
-        let first = run_over(alloc, &[&["replay"], devices], b"w 5 1 7\nr 5 1\nr 6 1\n")?;
+        let first = run_over(
+            alloc,
+            &["replay"],
+            NONE,
+            devices,
+            b"w 5 1 7\nr 5 1\nr 6 1\n",
+        )?;
         assert_eq!(rt; first.status, 0);
         assert!(rt;
             first.text.starts_with(b"wrote 5 1\nread 5 7\nread 6 0\nend 1 2 2 227d374bf90b30cb")
@@ -110,10 +116,10 @@ const COMMANDS: [(&[&str], &[u8]); 4] = [
 fn commands_print_the_same_over_all_devices(rt: HostRuntime) -> Result<(), Fail> {
     let alloc = rt.alloc();
     for (command, trace) in COMMANDS {
-        let plain = run_over(alloc, &[command, &SMALL], trace)?;
+        let plain = run_over(alloc, command, &SMALL, NONE, trace)?;
         assert_eq!(rt; plain.status, 0);
         for devices in DEVICES {
-            let other = run_over(alloc, &[command, &SMALL, devices], trace)?;
+            let other = run_over(alloc, command, &SMALL, devices, trace)?;
             assert_eq!(rt; other.status, 0);
             assert_eq!(rt; other.text.as_slice(), plain.text.as_slice());
         }
@@ -126,10 +132,10 @@ fn commands_print_the_same_over_all_devices(rt: HostRuntime) -> Result<(), Fail>
 fn a_cost_is_the_same_over_all_devices(rt: HostRuntime) -> Result<(), Fail> {
     let alloc = rt.alloc();
     let trace = b"w 0 9 1\nr 0 9\n";
-    let plain = run_over(alloc, &[&["cost"], &SMALL], trace)?;
+    let plain = run_over(alloc, &["cost"], &SMALL, NONE, trace)?;
     assert_eq!(rt; plain.status, 0);
     for devices in DEVICES {
-        let other = run_over(alloc, &[&["cost"], &SMALL, devices], trace)?;
+        let other = run_over(alloc, &["cost"], &SMALL, devices, trace)?;
         assert_eq!(rt; other.status, 0);
         assert_eq!(rt; other.text.as_slice(), plain.text.as_slice());
     }

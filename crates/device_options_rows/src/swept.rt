@@ -1,14 +1,19 @@
 //! Sweeps over the devices.
 
-use crate::over::{DEVICES, SMALL, run_over};
+use crate::over::{DEVICES, NONE, SMALL, run_over};
 use small_runs::is_plain;
 use std::alloc::Global;
 use std::process::Abort;
 use std::test::Fail;
 use trace_text::next_line;
 
-/// The words for the outcomes of a power cut.
-const OUTCOMES: [&str; 4] = ["blank", "whole", "torn", "mixed"];
+/// The words for the outcomes of a power cut, and those of a sweep with each.
+const OUTCOMES: [(&str, &[&str]); 4] = [
+    ("blank", &["sweep", "--outcome=blank"]),
+    ("whole", &["sweep", "--outcome=whole"]),
+    ("torn", &["sweep", "--outcome=torn"]),
+    ("mixed", &["sweep", "--outcome=mixed"]),
+];
 
 /// Two groups, the first of which fills an erase block.
 const TRACE: &[u8] = b"w 0 5 1\nr 0 5\n";
@@ -66,7 +71,7 @@ fn runs_in(
         let (run, later) = run_text(alloc, after)?;
         let cut = cut_at(alloc, runs, outcome)?;
         assert!(rt; is_plain(alloc, cut.as_slice(), run.as_slice(), 64)?);
-        let alone = run_over(alloc, &[&["replay"], &SMALL, devices], cut.as_slice())?;
+        let alone = run_over(alloc, &["replay"], &SMALL, devices, cut.as_slice())?;
         assert_eq!(rt; run.as_slice(), alone.text.as_slice());
         rest = later;
     }
@@ -75,19 +80,18 @@ fn runs_in(
 
 /// Sweeps the trace with this outcome. Over raw flash the text is that of plain flash. With parity there are as many runs,
 /// since a page and the parity page behind it are one program; but a stop counts both, so power is cut elsewhere.
-fn is_swept(rt: &impl Abort, alloc: Global, outcome: &str) -> Result<(), Fail> {
-    let words = ["sweep", "--outcome", outcome];
-    let plain = run_over(alloc, &[&words, &SMALL], TRACE)?;
-    let raw = run_over(alloc, &[&words, &SMALL, DEVICES[0]], TRACE)?;
-    let parity = run_over(alloc, &[&words, &SMALL, DEVICES[1]], TRACE)?;
-    let both = run_over(alloc, &[&words, &SMALL, DEVICES[2]], TRACE)?;
+fn is_swept(rt: &impl Abort, alloc: Global, outcome: &str, words: &[&str]) -> Result<(), Fail> {
+    let plain = run_over(alloc, words, &SMALL, NONE, TRACE)?;
+    let raw = run_over(alloc, words, &SMALL, DEVICES[0], TRACE)?;
+    let parity = run_over(alloc, words, &SMALL, DEVICES[1], TRACE)?;
+    let both = run_over(alloc, words, &SMALL, DEVICES[2], TRACE)?;
     assert_eq!(rt;
         (plain.status, raw.status, parity.status, both.status),
         (0, 0, 0, 0)
     );
     assert_eq!(rt; raw.text.as_slice(), plain.text.as_slice());
     assert_eq!(rt; both.text.as_slice(), parity.text.as_slice());
-    let runs = runs_in(rt, alloc, outcome, &[], plain.text.as_slice())?;
+    let runs = runs_in(rt, alloc, outcome, NONE, plain.text.as_slice())?;
     assert!(rt; runs > 0);
     assert_eq!(rt;
         runs_in(rt, alloc, outcome, DEVICES[1], parity.text.as_slice())?,
@@ -98,8 +102,8 @@ fn is_swept(rt: &impl Abort, alloc: Global, outcome: &str) -> Result<(), Fail> {
 
 #[test]
 fn a_trace_is_swept_over_all_devices(rt: HostRuntime) -> Result<(), Fail> {
-    for outcome in OUTCOMES {
-        is_swept(&rt, rt.alloc(), outcome)?;
+    for (outcome, words) in OUTCOMES {
+        is_swept(&rt, rt.alloc(), outcome, words)?;
     }
     Ok(())
 }

@@ -1,11 +1,10 @@
 -- A program of a page, and of the parity page after the last.
-use Rattle.std.proofs.Common.{◌≡◌, ◌≢◌, ◌<◌, ◌≤◌, ◌+◌, ◌==◌, ◌⊎◌, ℕ, min, Bool, true, false, length, inl, inr, refl, sym, ◌∙◌, ap, subst, arith, cond}
+use Rattle.std.proofs.Common.{◌≡◌, ◌≢◌, ◌<◌, ◌≤◌, ◌+◌, ◌==◌, ℕ, min, Bool, true, false, length, inl, inr, refl, sym, ◌∙◌, ap, subst, arith, cond}
 use Rattle.std.specs.Prelude.{Option, Some, None, Result, Ok, Err, OnOk, OnErr, IsErrOf}
 use Rattle.std.proofs.lemmas.Bool.{cases_eq}
 use Rattle.ft_base.specs.declared.block.Block.{Block}
 use Rattle.ft_base.specs.declared.block.Spare.{Spare}
 use Rattle.ft_base.specs.declared.block.Place.{Place}
-use Rattle.ft_base.specs.declared.block.Page.{Page}
 use Rattle.ft_base.specs.declared.block.Page.TheVariants as page
 use Rattle.ft_base.specs.Contents.{Contents, Flash, same_place, set_page, set, none_ready}
 use Rattle.ft_media.specs.declared.media.MediaError.{MediaError}
@@ -16,7 +15,7 @@ use Rattle.parity_media.specs.declared.parities.Parities.{Parities}
 use Rattle.parity_media.specs.declared.parities.Parity.{Parity}
 use Rattle.parity_media.specs.Xor.{pages_of}
 use Rattle.parity_media.specs.Kept.{parity_blocks, parity_pages, parity_of, joined_parity, completed, OneChanged}
-use Rattle.parity_media.specs.Shown.{shown_pages, shown_next, next_within, shown_flash}
+use Rattle.parity_media.specs.Shown.{shown_next, shown_flash}
 use Rattle.parity_media.specs.Tied.{Joins, BlockTied, Tied}
 use Rattle.parity_media.proofs.KeptLemmas.{one_here, one_else}
 use Rattle.parity_media.proofs.TiedLemmas.{other_block, other_page, set_else, set_there, put_else, put_there, leaves_else, gone, gone_here, gone_else, dead, incomplete, joins_more, filled_more, completes, tied_one}

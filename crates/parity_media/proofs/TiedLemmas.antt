@@ -1,5 +1,5 @@
 -- What is kept of a block, while its pages are programmed and erased.
-use Rattle.std.proofs.Common.{◌≡◌, ◌≢◌, ◌<◌, ◌≤◌, ◌+◌, ◌==◌, ◌⊎◌, ℕ, Bool, true, false, nat_lt, length, inl, inr, refl, sym, ◌∙◌, ap, subst, arith, cond}
+use Rattle.std.proofs.Common.{◌≡◌, ◌≢◌, ◌<◌, ◌+◌, ◌==◌, ◌⊎◌, ℕ, Bool, true, false, nat_lt, length, inl, inr, refl, sym, ◌∙◌, ap, subst, arith, cond}
 use Rattle.std.specs.Prelude.{Option, Some, None, Result, Ok, Err, OnOk, IsErrOf}
 use Rattle.std.proofs.lemmas.Bool.{cases_eq, cases_lt}
 use Rattle.std.proofs.lemmas.Bool.Decides.{nat_tests}
@@ -15,7 +15,7 @@ use Rattle.ft_media.specs.State.{lost}
 use Rattle.ft_media.specs.Media.{LeavesPage, PagesErased, FlashStays, Crashed, IsBlankAhead, after_erase}
 use Rattle.parity_media.specs.declared.parities.Parities.{Parities}
 use Rattle.parity_media.specs.declared.parities.Parity.{Parity}
-use Rattle.parity_media.specs.Xor.{xor_page, xor_whole, xor_of_pages, block_bytes, IsFull, pages_of}
+use Rattle.parity_media.specs.Xor.{xor_page, xor_whole, block_bytes, IsFull, pages_of}
 use Rattle.parity_media.specs.Kept.{parity_blocks, parity_pages, parity_of, new_parity, joined_parity, completed}
 use Rattle.parity_media.specs.Shown.{shown_pages, shown_next, next_within}
 use Rattle.parity_media.specs.Tied.{Joins, HasParity, BlockTied, Tied}

@@ -1,13 +1,11 @@
 -- Device writes that drive the flash alone, one and one after another.
-use Rattle.std.proofs.Common.{◌≡◌, ◌≢◌, ◌<◌, ◌≤◌, ◌⊎◌, ℕ, Bool, true, false, List, [], inl, inr, refl, sym, ◌∙◌, ap, arith}
+use Rattle.std.proofs.Common.{◌≡◌, ◌≢◌, ◌<◌, ℕ, Bool, true, false, [], refl, sym, ◌∙◌, ap, arith}
 use Rattle.std.specs.Prelude.{Result, Ok, Err, OnOk, IsErrOf}
-use Rattle.ft_base.specs.declared.power.Stop.{Stop}
-use Rattle.ft_base.specs.Count.{Rose, bumped}
 use Rattle.ft_base.specs.Contents.{Values}
 use Rattle.ft_media.specs.declared.media.MediaError.{MediaError}
 use Rattle.ft_media.specs.declared.media.MediaError.TheVariants as error
 use Rattle.ft_media.specs.declared.rig.Counts.{Counts}
-use Rattle.ft_media.specs.State.{State, Faults, failed, lost}
+use Rattle.ft_media.specs.State.{State, failed, lost}
 use Rattle.ft_media.specs.Passes.{Passes}
 use Rattle.ft_media.specs.Media.{Crashed, DiskStays, DeviceWrite, FlashCause, if_ok, program_counted, erase_counted}
 use Rattle.ft_media.specs.Rig.{SettledByStop, after_cut}

@@ -1,5 +1,5 @@
 -- The exclusive or of pages: a page that is left out of it comes back.
-use Rattle.std.proofs.Common.{◌≡◌, ◌≢◌, ◌<◌, ◌≤◌, ◌+◌, ◌⊎◌, ℕ, zero, suc, Bool, true, false, List, [], ◌∷◌, length, replicate, bit_xor, inl, inr, refl, sym, ◌∙◌, ap, subst, arith, add-one}
+use Rattle.std.proofs.Common.{◌≡◌, ◌≢◌, ◌<◌, ◌+◌, ℕ, zero, suc, true, List, [], ◌∷◌, length, replicate, bit_xor, refl, sym, ◌∙◌, ap, subst, arith, add-one}
 use Rattle.std.proofs.lemmas.Simd.{length-zip2, length-replicate}
 use lib.Bits.{xor_assoc, xor_comm, xor_self, xor_zero_l}
 use Rattle.lanes.specs.Kernels.{xor_of}
@@ -11,7 +11,7 @@ use Rattle.ft_base.specs.Contents.{zero_block}
 use Rattle.ft_media.specs.declared.media.PageRead.{PageRead}
 use Rattle.ft_media.specs.declared.media.PageRead.TheVariants as read
 use Rattle.ft_media.specs.Media.{Found}
-use Rattle.parity_media.specs.Xor.{zero_spare, xor_block, xor_spare, xor_whole, xor_page, xor_of_pages, block_bytes, spare_bytes, is_whole, IsFull, JoinsBut}
+use Rattle.parity_media.specs.Xor.{zero_spare, xor_whole, xor_page, xor_of_pages, block_bytes, spare_bytes, is_whole, IsFull, JoinsBut}
 
 -- two numbers that are joined to a third can be joined in either order
 number_swap : (a b c : ℕ) → bit_xor (bit_xor a b) c ≡ bit_xor (bit_xor a c) b

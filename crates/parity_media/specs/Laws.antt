@@ -1,17 +1,14 @@
 -- What holds of a rig with parity, from what holds of the rig beneath.
-use Rattle.std.specs.Prelude.{◌≡◌, ◌<◌, ◌≤◌, ◌^◌, ℕ, min, nat_lt, Bool, true, false, Option, Some, None}
-use Rattle.std.proofs.Common.{refl, sym, ◌∙◌, ap, arith, cond}
+use Rattle.std.specs.Prelude.{◌≡◌, ◌<◌, ◌≤◌, ℕ, min, nat_lt, Bool, true, false, Option, Some, None}
+use Rattle.std.proofs.Common.{refl, ◌∙◌, ap, arith, cond}
 use Rattle.std.proofs.lemmas.Bool.Decides.{nat_tests}
-use Rattle.ft_base.specs.declared.block.Place.{Place}
-use Rattle.ft_base.specs.declared.block.Page.{Page}
 use Rattle.ft_base.specs.declared.block.Page.TheVariants as page
-use Rattle.ft_base.specs.Contents.{Contents, none_ready}
-use Rattle.ft_base.specs.Count.{last_count}
+use Rattle.ft_base.specs.Contents.{Contents}
 use Rattle.ft_media.specs.State.{State}
 use Rattle.ft_media.specs.Media.{Crashed, IsBlankAhead, IsSmall}
 use Rattle.parity_media.specs.declared.parities.Parities.{Parities}
 use Rattle.parity_media.specs.declared.tally.Tally.{Tally}
-use Rattle.parity_media.specs.Shown.{shown_pages, shown_next, next_within, shown_contents, parity_state}
+use Rattle.parity_media.specs.Shown.{shown_next, next_within, shown_contents, parity_state}
 
 -- past the blocks that were fitted nothing is ready
 pub ready_so : (blocks pages : ℕ) (next : ℕ → Option ℕ) (b : ℕ) → blocks ≤ b → shown_next blocks pages next b ≡ None

@@ -1,5 +1,5 @@
 -- What a call does to the rig beneath a rig with parity.
-use Rattle.std.specs.Prelude.{◌≡◌, ◌≤◌, Bool, true, false, Result, IsErrOf}
+use Rattle.std.specs.Prelude.{◌≡◌, ◌≤◌, Bool, true, Result, IsErrOf}
 use Rattle.ft_base.specs.Count.{Rose, bumped}
 use Rattle.ft_media.specs.declared.media.MediaError.{MediaError}
 use Rattle.ft_media.specs.declared.media.MediaError.TheVariants as error

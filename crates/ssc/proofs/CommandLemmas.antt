@@ -1,5 +1,5 @@
 -- The answers of a command, and the lists that it leaves, between two states of a cache that holds a list.
-use Rattle.std.proofs.Common.{◌≡◌, ◌↔◌, ℕ, ◌<◌, ◌==◌, Bool, true, false, cond, Option, Some, None, Result, Ok, Err, OnOk, OnErr, IsTrue, refl, sym, ◌∙◌, ap, subst, arith, inl, inr, eqb-true}
+use Rattle.std.proofs.Common.{◌≡◌, ◌↔◌, ℕ, ◌<◌, ◌==◌, Bool, true, false, cond, Option, Some, None, Result, Ok, Err, OnOk, OnErr, IsErrOf, IsTrue, refl, sym, ◌∙◌, ap, subst, arith, inl, inr, eqb-true}
 use Rattle.std.specs.Result.{is_err}
 use Rattle.std.specs.Option.{option_map, is_some}
 use Rattle.std.specs.Cmp.{nat_cmp_total}
@@ -29,6 +29,7 @@ use Rattle.merge_engine.proofs.TakeLemmas.{agree_map}
 use Rattle.ssc.specs.declared.cache.Ssc.{Ssc}
 use Rattle.ssc.specs.declared.error.SscError.{SscError}
 use Rattle.ssc.specs.Errors.{of_media, ssc_failed, ssc_lost}
+use Rattle.ssc.specs.Kept.{RefusesWrite}
 use Rattle.ssc.specs.CacheState.{Holds, entries_of}
 use Rattle.ssc.specs.Commands.{FlashStandsForOne, AsUndone, AsBefore, AsAfter}
 use Rattle.ssc.specs.Steps.{FlashStandsForEither}
@@ -71,6 +72,15 @@ given_up T a b media.OutOfMemory drives = drives
 -- a command that failed drove the media as its step did
 pub drives_given_up : (T : Type 0) (a b : State) (r : SscError) (e : MediaError) → r ≡ of_media e → DrivesFlash a b (failed {T = T} (Err e)) (lost {T = T} (Err e)) → DrivesFlash a b (ssc_failed {T = T} (Err r)) (ssc_lost {T = T} (Err r))
 drives_given_up T a b r e is drives = subst (λ (x : SscError). DrivesFlash a b (ssc_failed {T = T} (Err x)) (ssc_lost {T = T} (Err x))) (sym is) (given_up T a b e drives)
+
+-- neither is it one that answered `Full` or had no memory
+no_refusal : (T U : Type 0) (old new : Ssc) (a b : State) (e : MediaError) → (IsErrOf {T = U} (Err e) media.OutOfMemory → ⊥) → RefusesWrite {T = T} old new a b (Err (of_media e))
+no_refusal T U old new a b media.Failed never = record { full_keeps = λ n l is. absurd (cc); memory = λ is. absurd (cc); memory_holds = λ is. absurd (cc) }
+no_refusal T U old new a b media.PowerLost never = record { full_keeps = λ n l is. absurd (cc); memory = λ is. absurd (cc); memory_holds = λ is. absurd (cc) }
+no_refusal T U old new a b media.OutOfMemory never = absurd (never refl)
+
+pub failed_refuses : (T U : Type 0) (old new : Ssc) (a b : State) (r : SscError) (e : MediaError) → r ≡ of_media e → (IsErrOf {T = U} (Err e) media.OutOfMemory → ⊥) → RefusesWrite {T = T} old new a b (Err r)
+failed_refuses T U old new a b r e is never = subst (λ (x : SscError). RefusesWrite {T = T} old new a b (Err x)) (sym is) (no_refusal T U old new a b e never)
 
 -- ---- nothing to do
 

@@ -1,3 +1,4 @@
+pub mod NotedLemmas
 pub mod HoldsLemmas
 pub mod DirtyLemmas
 pub mod CommandLemmas
@@ -10,6 +11,7 @@ pub mod OpenLemmas
 pub mod PlaceLemmas
 pub mod WrittenLemmas
 pub mod SpendLemmas
+pub mod LosingLemmas
 pub mod WriteLemmas
 pub mod GrowthLemmas
 pub mod OwnLemmas

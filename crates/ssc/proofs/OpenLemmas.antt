@@ -136,6 +136,11 @@ module _ (g : Geometry) (old mid : Contents) (loaded : Loaded) (parts : Parts) (
 reads_as : (a b : State) (f l : Bool) → ReadsFlash a b f l → f ≡ false → l ≡ false → ReadsFlash a b false false
 reads_as a b f l reads no_fault no_cut = subst (λ (x : Bool). ReadsFlash a b x false) no_fault (subst (λ (x : Bool). ReadsFlash a b f x) no_cut reads)
 
+-- there was no memory after the flash was read
+pub memory_reads : {T : Type 0} (a b : State) (r : Result T OpenError) → IsErrAnd r (λ own. own ≡ OutOfMemory) → ReadsFlash a b false false → ReadsFlash a b (open_failed r) (open_lost r)
+memory_reads a b (Ok v) is reads = absurd is
+memory_reads {T = T} a b (Err own) is reads = subst (λ (x : OpenError). ReadsFlash a b (open_failed {T = T} (Err x)) (open_lost {T = T} (Err x))) (sym is) reads
+
 -- an opening that failed at a read
 pub refused_reads : (g : Geometry) (a b : State) (T : Type 0) (r : Result Ssc OpenError) (e : OpenError) → IsErrAnd r (λ own. own ≡ e) → ReadsFlash a b (open_failed {T = T} (Err e)) (open_lost {T = T} (Err e)) → CostsOpening g a b r
 refused_reads g a b T (Ok v) e is reads = absurd is

@@ -1,26 +1,23 @@
 -- No command holds a block under another address than its own.
-use Rattle.std.proofs.Common.{◌≡◌, ℕ, ◌==◌, ◌/◌, Bool, true, false, cond, List, [], ◌∷◌, Option, Some, None, nat_cmp, refl, sym, ◌∙◌, ap, subst, eqb-true}
-use Rattle.std.proofs.lemmas.Bool.{false≢true, or_parts}
-use Rattle.std.specs.List.{list_any}
+use Rattle.std.proofs.Common.{◌≡◌, ℕ, ◌==◌, ◌/◌, Bool, true, false, cond, List, Option, Some, None, nat_cmp, refl, sym, ◌∙◌, ap, subst, inl, inr, eqb-true}
+use Rattle.std.proofs.lemmas.Bool.{false≢true}
 use Rattle.std.specs.Option.{option_map}
 use Rattle.std.specs.FinMap.{empty, get, get-empty, insert, remove}
 use Rattle.ft_base.specs.declared.block.Block.{Block}
 use Rattle.ft_base.specs.declared.block.Place.{Place}
 use Rattle.ft_base.specs.declared.block.Page.{Page}
 use Rattle.ft_base.specs.declared.geometry.Geometry.{Geometry}
-use Rattle.ft_base.specs.declared.record.Record.{Record}
 use Rattle.ft_base.specs.Contents.{Contents}
 use Rattle.cache_model.specs.Spelling.{data_spare}
-use Rattle.cache_model.specs.Cache.{AreOwn, Buffered, Inserted, Cleaned, Written, Vanish, evicted, is_write, made_clean, marked, marked_as, undo, written_block}
+use Rattle.cache_model.specs.Cache.{AreOwn, Buffered, Vanish, evicted, made_clean, marked, marked_as, undo, written_block}
 use Rattle.cache_model.specs.CacheList.{CacheList, Held}
 use Rattle.cache_model.specs.Stands.{FlashStandsFor}
 use Rattle.cache_model.proofs.MapLemmas.{get_insert, get_remove}
-use Rattle.cache_model.proofs.UndoLemmas.{back_at, get_undo, undone_at}
 use Rattle.ssc.specs.declared.cache.Ssc.{Ssc}
-use Rattle.ssc.specs.CacheState.{Holds, geometry_of, pending, waiting}
-use Rattle.ssc.specs.Commands.{FlashStandsForOne, AsUndone, AsBefore, AsAfter, FlashStandsForWrite, AsLeft, AsWritten, HoldsWritten, ImagesOf, ImagesOfWrite}
+use Rattle.ssc.specs.CacheState.{Holds, HoldsBeside, geometry_of}
+use Rattle.ssc.specs.Commands.{FlashStandsForOne, AsUndone, AsBefore, AsAfter, FlashStandsForWrite, AsLeft, AsWritten, ImagesOf, ImagesOfWrite}
 use Rattle.ssc.specs.Own.{HoldsOwn, KeepsOwn, LoadsOwn}
-use Rattle.ssc.proofs.HoldsLemmas.{none_written}
+use Rattle.ssc.proofs.LosingLemmas.{Loses, StepLosing, WrittenLosing}
 
 -- ---- at one address
 
@@ -42,24 +39,7 @@ own_unless : (a : ℕ) (gone : Bool) (o : Option Held) → IsOwnAt a o → IsOwn
 own_unless a true o own = own_none a
 own_unless a false o own = own
 
-own_back : (b : Buffered) (a : ℕ) (o : Option Held) → is_write b ≡ false → IsOwnAt a o → IsOwnAt a (back_at b a o)
-own_back (Inserted k) a o none own = own_unless a (a == k) o own
-own_back (Written k old) a o none own = absurd (false≢true (sym none))
-own_back (Cleaned k) a o none own = by_choice (a == k)
-  where
-    by_choice : (t : Bool) → IsOwnAt a (cond t (option_map (marked_as true) o) o)
-    by_choice true = own_marked true a o own
-    by_choice false = own
-
-own_undone : (q : List Buffered) (a : ℕ) (o : Option Held) → list_any is_write q ≡ false → IsOwnAt a o → IsOwnAt a (undone_at q a o)
-own_undone [] a o none own = own
-own_undone (b ∷ q) a o none own = let p = or_parts (is_write b) (list_any is_write q) none in own_back b a (undone_at q a o) p.0 (own_undone q a o p.1 own)
-
 -- ---- in a list
-
-pub undone_own : (changes : List Record) (s : CacheList) → AreOwn s → AreOwn (undo (waiting changes) s)
-undone_own changes s own a =
-    own_as a (get (undo (waiting changes) s) a) (undone_at (waiting changes) a (get s a)) (get_undo (waiting changes) s a) (own_undone (waiting changes) a (get s a) (none_written changes) (own a))
 
 vanish_own : (g : Geometry) (s : CacheList) (lba : ℕ) (v : CacheList) → Vanish g s lba v → AreOwn s → AreOwn v
 vanish_own g s lba v gave own a = own_as a (get v a) (cond (gave.gone (a / g.p)) None (get s a)) (gave.stays a) (own_unless a (gave.gone (a / g.p)) (get s a) (own a))
@@ -89,46 +69,75 @@ empty_own a = own_as a (get empty a) None (get-empty nat_cmp a) (own_none a)
 
 -- ---- the lists after commands
 
--- the buffered changes are undone
-undone_loads : (c : Ssc) (page : Place → Page) (s : CacheList) → AreOwn s → FlashStandsFor (geometry_of c) page (undo (pending c) s) → LoadsOwn (geometry_of c) page
-undone_loads c page s own stands = record { list = undo (pending c) s; stands = stands; own = undone_own c.parts.log.buffered s own }
+-- the list that a crash would leave
+loses_own : (lost undone before after : CacheList) → AreOwn undone → AreOwn before → AreOwn after → Loses lost undone before after → AreOwn lost
+loses_own lost undone before after own own' own'' (inl is) = subst AreOwn (sym is) own
+loses_own lost undone before after own own' own'' (inr (inl is)) = subst AreOwn (sym is) own'
+loses_own lost undone before after own own' own'' (inr (inr is)) = subst AreOwn (sym is) own''
 
-one_loads : (c : Ssc) (page : Place → Page) (before after : CacheList) → AreOwn before → AreOwn after → FlashStandsForOne (geometry_of c) page (undo (pending c) before) before after → LoadsOwn (geometry_of c) page
-one_loads c page before after own own' (AsUndone stands) = undone_loads c page before own stands
-one_loads c page before after own own' (AsBefore stands) = record { list = before; stands = stands; own = own }
-one_loads c page before after own own' (AsAfter stands) = record { list = after; stands = stands; own = own' }
+pub step_own : (c : Ssc) (contents : Contents) (before undone after : CacheList) → AreOwn undone → AreOwn before → AreOwn after → StepLosing c contents before undone after → HoldsOwn c contents
+step_own c contents before undone after own own' own'' x = record {
+  list = after;
+  holds = x.holds;
+  own = own'';
+  durable = loses_own (undo x.holds.waiting after) undone before after own own' own'' x.loses;
+}
+
+one_loads : (c : Ssc) (page : Place → Page) (undone before after : CacheList) → AreOwn undone → AreOwn before → AreOwn after → FlashStandsForOne (geometry_of c) page undone before after → LoadsOwn (geometry_of c) page
+one_loads c page undone before after own own' own'' (AsUndone stands) = record { list = undone; stands = stands; own = own }
+one_loads c page undone before after own own' own'' (AsBefore stands) = record { list = before; stands = stands; own = own' }
+one_loads c page undone before after own own' own'' (AsAfter stands) = record { list = after; stands = stands; own = own'' }
 
 -- a command that has its step on the list, or was given up
 pub kept_step : (old new : Ssc) (contents contents' : Contents) (step : CacheList → CacheList) → ((s : CacheList) → AreOwn s → AreOwn (step s))
-    → (new.stopped ≡ false → (s : CacheList) → Holds old contents s → Holds new contents' (step s)) → ((s : CacheList) → Holds old contents s → ImagesOf old contents' s (step s)) → KeepsOwn old contents new contents'
+    → (new.stopped ≡ false → (s : CacheList) (h : Holds old contents s) → StepLosing new contents' s (undo h.waiting s) (step s))
+    → ((s : CacheList) (h : Holds old contents s) → ImagesOf old contents' (undo h.waiting s) s (step s)) → KeepsOwn old contents new contents'
 kept_step old new contents contents' step keeps done images was = (
-  λ x now. one_loads old x.page was.list (step was.list) was.own (keeps was.list was.own) (images was.list was.holds x now),
-  λ up. record { list = step was.list; holds = done up was.list was.holds; own = keeps was.list was.own; durable = undone_own new.parts.log.buffered (step was.list) (keeps was.list was.own) },
+  λ x now. one_loads old x.page (undo was.holds.waiting was.list) was.list (step was.list) was.durable was.own (keeps was.list was.own) (images was.list was.holds x now),
+  λ up. step_own new contents' was.list (undo was.holds.waiting was.list) (step was.list) was.durable was.own (keeps was.list was.own) (done up was.list was.holds),
 )
 
 -- a write, for which clean groups may have given way
 module _ (old new : Ssc) (contents contents' : Contents) (lba : ℕ) (block : Block) (dirty : Bool) where
-  write_loads : (page : Place → Page) (s : CacheList) → AreOwn s → FlashStandsForWrite (geometry_of old) page (undo (pending old) s) s lba (λ t. insert t lba (written_block lba block dirty)) → LoadsOwn (geometry_of old) page
-  write_loads page s own (AsUndone stands) = undone_loads old page s own stands
-  write_loads page s own (AsLeft v gave stands) = record { list = v; stands = stands; own = vanish_own (geometry_of old) s lba v gave own }
-  write_loads page s own (AsWritten v gave stands) = record { list = insert v lba (written_block lba block dirty); stands = stands; own = written_own lba block dirty v (vanish_own (geometry_of old) s lba v gave own) }
+  abbrev put : CacheList → CacheList
+  put s = insert s lba (written_block lba block dirty)
 
-  own_written : (v : CacheList) → Holds new contents' (insert v lba (written_block lba block dirty)) → AreOwn v → HoldsOwn new contents'
-  own_written v holds own = let after = written_own lba block dirty v own in record { list = insert v lba (written_block lba block dirty); holds = holds; own = after; durable = undone_own new.parts.log.buffered (insert v lba (written_block lba block dirty)) after }
+  write_loads : (page : Place → Page) (undone s : CacheList) → AreOwn undone → AreOwn s → FlashStandsForWrite (geometry_of old) page undone s lba put → LoadsOwn (geometry_of old) page
+  write_loads page undone s own own' (AsUndone stands) = record { list = undone; stands = stands; own = own }
+  write_loads page undone s own own' (AsLeft v gave stands) = record { list = v; stands = stands; own = vanish_own (geometry_of old) s lba v gave own' }
+  write_loads page undone s own own' (AsWritten v gave stands) = record { list = put v; stands = stands; own = written_own lba block dirty v (vanish_own (geometry_of old) s lba v gave own') }
 
-  pub kept_write : (new.stopped ≡ false → (s : CacheList) → Holds old contents s → HoldsWritten new contents' s lba (λ t. insert t lba (written_block lba block dirty)))
-      → ((s : CacheList) → Holds old contents s → ImagesOfWrite old contents' s lba (λ t. insert t lba (written_block lba block dirty))) → KeepsOwn old contents new contents'
+  own_written : (s undone : CacheList) → AreOwn undone → AreOwn s → WrittenLosing new contents' s undone lba put → HoldsOwn new contents'
+  own_written s undone own own' x =
+      let left = vanish_own (geometry_of new) s lba x.left x.vanish own' in
+      step_own new contents' x.left undone (put x.left) own left (written_own lba block dirty x.left left) x.losing
+
+  pub kept_write : (new.stopped ≡ false → (s : CacheList) (h : Holds old contents s) → WrittenLosing new contents' s (undo h.waiting s) lba put)
+      → ((s : CacheList) (h : Holds old contents s) → ImagesOfWrite old contents' (undo h.waiting s) s lba put) → KeepsOwn old contents new contents'
   kept_write done images was = (
-    λ x now. write_loads x.page was.list was.own (images was.list was.holds x now),
-    λ up. let written = done up was.list was.holds in own_written written.left written.holds (vanish_own (geometry_of new) was.list lba written.left written.vanish was.own),
+    λ x now. write_loads x.page (undo was.holds.waiting was.list) was.list was.durable was.own (images was.list was.holds x now),
+    λ up. own_written was.list (undo was.holds.waiting was.list) was.durable was.own (done up was.list was.holds),
   )
 
 -- if nothing was done on the flash
-pub kept_held : (old new : Ssc) (contents : Contents) → ((s : CacheList) → Holds old contents s → Holds new contents s) → KeepsOwn old contents new contents
+pub kept_held : (old new : Ssc) (contents : Contents) → ((s : CacheList) (h : Holds old contents s) → HoldsBeside new contents s h.waiting) → KeepsOwn old contents new contents
 kept_held old new contents holds was = (
-  λ x now. undone_loads old x.page was.list was.own (subst (λ (page : Place → Page). FlashStandsFor (geometry_of old) page (undo (pending old) was.list)) (sym now.pages) was.holds.lists.stands),
-  λ up. record { list = was.list; holds = holds was.list was.holds; own = was.own; durable = undone_own new.parts.log.buffered was.list was.own },
+  λ x now. record {
+    list = undo was.holds.waiting was.list;
+    stands = subst (λ (page : Place → Page). FlashStandsFor (geometry_of old) page (undo was.holds.waiting was.list)) (sym now.pages) was.holds.lists.stands;
+    own = was.durable;
+  },
+  λ up. let k = holds was.list was.holds in record {
+    list = was.list;
+    holds = k.holds;
+    own = was.own;
+    durable = subst AreOwn (sym (ap (λ (q : List Buffered). undo q was.list) k.same)) was.durable;
+  },
 )
+
+-- and nothing in the cache
+pub held_still : (c : Ssc) (contents : Contents) (s : CacheList) (h : Holds c contents s) → HoldsBeside c contents s h.waiting
+held_still c contents s h = record { holds = h; same = refl }
 
 -- a cache that was given up holds nothing
 pub given_up_not : {P : Type 0} (c : Ssc) → c.stopped ≡ true → c.stopped ≡ false → P

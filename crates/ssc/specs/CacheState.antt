@@ -1,5 +1,5 @@
 -- A cache and its flash: the list that they hold, and its changes that are only buffered.
-use Rattle.std.specs.Prelude.{◌≡◌, ◌⊎◌, ◌≤◌, ◌-◌, ℕ, Bool, true, false, not, max, IsTrue, List, [], ◌∷◌}
+use Rattle.std.specs.Prelude.{◌≡◌, ◌⊎◌, ◌≤◌, ◌-◌, ℕ, Bool, true, false, max, IsTrue, List, [], ◌∷◌, None, length, map, count_by}
 use Rattle.std.specs.List.{list_all}
 use Rattle.ft_base.specs.declared.geometry.Geometry.{Geometry}
 use Rattle.ft_base.specs.declared.record.Record.{Record}
@@ -7,7 +7,7 @@ use Rattle.ft_base.specs.declared.record.Record.TheVariants.{SetPage, Remove, Cl
 use Rattle.ft_base.specs.Contents.{Contents}
 use Rattle.ft_base.specs.Layout.{log_pages}
 use Rattle.cache_model.specs.Records.{Entries}
-use Rattle.cache_model.specs.Cache.{Buffered, Inserted, Cleaned, MayWait, undo}
+use Rattle.cache_model.specs.Cache.{Buffered, Inserted, Cleaned, Written, MayWait, is_write, undo}
 use Rattle.cache_model.specs.CacheList.{CacheList}
 use Rattle.mapping.specs.Room.{GrewForPages, GrewForGroups, HasFewBuckets}
 use Rattle.merge_engine.specs.declared.parts.Parts.{Parts}
@@ -20,17 +20,19 @@ geometry_of c = c.parts.geometry
 abbrev pub entries_of : Ssc → Entries
 entries_of c = c.parts.map.entries
 
--- a record that may be buffered between two commands: an address that came clean, or one that was made clean
+-- a record that may be buffered between two commands: a block that was written, dirty or clean, or an address that was made
+-- clean
 abbrev pub may_wait : Record → Bool
-may_wait (SetPage lba place dirty) = not dirty
+may_wait (SetPage lba place dirty) = true
 may_wait (Remove lba) = false
 may_wait (Clean lba) = true
 may_wait (SetGroup group block present dirty) = false
 may_wait (RemoveGroup group) = false
 
--- the meaning of such a record for the list
+-- the meaning of such a record for the list; the record of a dirty block doesn't say over what the block was written
 abbrev pub waiting_as : Record → Buffered
-waiting_as (SetPage lba place dirty) = Inserted lba
+waiting_as (SetPage lba place true) = Written lba None
+waiting_as (SetPage lba place false) = Inserted lba
 waiting_as (Remove lba) = Cleaned lba
 waiting_as (Clean lba) = Cleaned lba
 waiting_as (SetGroup group block present dirty) = Cleaned group
@@ -40,9 +42,15 @@ abbrev pub waiting : List Record → List Buffered
 waiting [] = []
 waiting (change ∷ changes) = waiting_as change ∷ waiting changes
 
--- the changes that are buffered, and not yet on the flash
+-- the changes that are buffered, and not yet on the flash, by kind and address
 abbrev pub pending : Ssc → List Buffered
 pending c = waiting c.parts.log.buffered
+
+-- the kind and the address alone
+abbrev pub shaped : Buffered → Buffered
+shaped (Inserted a) = Inserted a
+shaped (Cleaned a) = Cleaned a
+shaped (Written a old) = Written a None
 
 -- the pages of the open log block that are left
 abbrev pub open_room : Ssc → ℕ
@@ -59,15 +67,24 @@ pub record HasMemory (parts : Parts) : Type 0 where
   pub pages : 1 ≤ parts.map.spare_pages
   pub groups : parts.geometry.p ≤ parts.map.spare_groups
 
--- between two commands: the cache has left the flash like this, and holds this list, in few buckets; without the
--- buffered changes, the flash stands for it
+-- between two commands: the cache has left the flash like this, and holds this list, in few buckets. The buffered changes wait
+-- beside the list, each write with what it was written over; without them, the flash stands for the list. The places that are
+-- kept are as many as the buffered writes
 pub record Holds (c : Ssc) (contents : Contents) (s : CacheList) : Type 0 where
   pub agree : PartsAgree c.parts contents
-  pub lists : Lists c.parts contents.flash.page s (undo (pending c) s)
+  pub waiting : List Buffered
+  pub shapes : map shaped waiting ≡ pending c
   pub kinds : IsTrue (list_all may_wait c.parts.log.buffered)
-  pub waits : MayWait (geometry_of c) (pending c) s
+  pub lists : Lists c.parts contents.flash.page s (undo waiting s)
+  pub waits : MayWait (geometry_of c) waiting s
   pub memory : c.ready ≡ true → HasMemory c.parts
   pub few : HasFewBuckets c.parts.map
+  pub places : length c.before ≡ count_by is_write (pending c)
+
+-- the cache holds the list, and these changes wait beside it
+pub record HoldsBeside (c : Ssc) (contents : Contents) (s : CacheList) (beside : List Buffered) : Type 0 where
+  pub holds : Holds c contents s
+  pub same : holds.waiting ≡ beside
 
 -- the cache holds some list, and was not given up
 pub record IsUp (c : Ssc) (contents : Contents) : Type 0 where

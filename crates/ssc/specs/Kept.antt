@@ -8,7 +8,7 @@ use Rattle.ft_media.specs.State.{State}
 use Rattle.ft_media.specs.Drives.{DrivesFlash}
 use Rattle.ft_media.specs.Passes.{ProgramsPages}
 use Rattle.ft_media.specs.Media.{program_counted}
-use Rattle.cache_model.specs.Cache.{Inserted}
+use Rattle.cache_model.specs.Cache.{Inserted, Written, undo}
 use Rattle.cache_model.specs.CacheList.{CacheList}
 use Rattle.checkpoint.specs.Commits.{AddsCheckpoint}
 use Rattle.checkpoint.specs.Current.{log_checkpointed, log_committed}
@@ -20,7 +20,7 @@ use Rattle.ssc.specs.declared.cache.Ssc.{Ssc}
 use Rattle.ssc.specs.declared.error.SscError.{SscError}
 use Rattle.ssc.specs.declared.error.SscError.TheVariants.{Full, OutOfMemory}
 use Rattle.ssc.specs.Errors.{ssc_failed, ssc_lost, stops}
-use Rattle.ssc.specs.CacheState.{Holds, IsAsBefore, geometry_of, log_room, open_room, pending}
+use Rattle.ssc.specs.CacheState.{Holds, HoldsBeside, IsAsBefore, geometry_of, log_room, open_room, pending}
 use Rattle.ssc.specs.Commands.{ImagesOf}
 use Rattle.ssc.specs.Steps.{TakesLogPage}
 
@@ -65,7 +65,8 @@ pub record RunsInPlace {T : Type 0} (old new : Ssc) (before after : State) (resu
 pub record RefusesWrite {T : Type 0} (old new : Ssc) (before after : State) (result : Result T SscError) : Type 0 where
   pub full_keeps : (n l : ℕ) → IsErrOf result (Full n l) → (new ≡ old) × (after ≡ before)
   pub memory : IsErrOf result OutOfMemory → (old.ready ≡ false) × IsAsBefore old new × (after ≡ before)
-  pub memory_holds : IsErrOf result OutOfMemory → (contents : Contents) (s : CacheList) → Holds old contents s → Holds new contents s
+  pub memory_holds : IsErrOf result OutOfMemory → (contents : Contents) (s : CacheList) (h : Holds old contents s)
+      → HoldsBeside new contents s h.waiting
 
 -- nothing gives way if the open log block has a page left. Nothing gives way either if a log block is available without
 -- a merge, whatever the answer is
@@ -73,13 +74,21 @@ pub record KeepsInRoom {T : Type 0} (old new : Ssc) (before after : State) (step
     (result : Result T SscError) : Type 0 where
   pub inside : OnOk result (1 ≤ open_room old → (s : CacheList) → Holds old before.contents s → Holds new after.contents (step s))
   pub kept : OnOk result (HasLogBlock old.parts → (s : CacheList) → Holds old before.contents s → Holds new after.contents (step s))
-  pub kept_images : HasLogBlock old.parts → (s : CacheList) → Holds old before.contents s → ImagesOf old after.contents s (step s)
+  pub kept_images : HasLogBlock old.parts → (s : CacheList) (h : Holds old before.contents s)
+      → ImagesOf old after.contents (undo h.waiting s) s (step s)
 
 -- after `Ok` a dirty write has spent at least two device writes; it programmed exactly two pages if the open log block
 -- and the log had room
 pub record CostsDirty {T : Type 0} (old : Ssc) (before after : State) (result : Result T SscError) : Type 0 where
   pub two_programs : OnOk result (1 ≤ open_room old → 1 ≤ log_room old → after.counts ≡ program_counted (program_counted before.counts))
   pub programs : OnOk result (ProgramsPages 2 before after)
+
+-- after `Ok` a later write has spent at least one device write. It programmed one page, and its record waits, if the open log
+-- block and the buffer had room
+pub record CostsLater {T : Type 0} (old new : Ssc) (lba : ℕ) (before after : State) (result : Result T SscError) : Type 0 where
+  pub one_program : OnOk result (1 ≤ open_room old → length (pending old) + 2 ≤ page_records (geometry_of old)
+      → (after.counts ≡ program_counted before.counts) × (pending new ≡ pending old ++ Written lba None ∷ []))
+  pub programs : OnOk result (ProgramsPages 1 before after)
 
 -- after `Ok` a clean write has spent at least one device write. It programmed one page if the address was absent, and
 -- the open log block and the buffer had room

@@ -7,3 +7,4 @@ pub mod Opened
 pub mod Listed
 pub mod Scrubbed
 pub mod Own
+pub mod Places

@@ -28,6 +28,7 @@ pub record IsLoadedFrom (g : Geometry) (page : Place → Page) (c : LoadedCache)
   pub loaded : Loaded
   pub is_loaded : IsLoaded g page loaded
   pub parts : IsLoadedAs g loaded c.cache.parts
+  pub places : c.cache.before ≡ []
   pub unready : c.cache.ready ≡ false
   pub up : c.cache.stopped ≡ false
 

@@ -9,14 +9,14 @@ use Rattle.cache_model.specs.Cache.{AreOwn, undo}
 use Rattle.cache_model.specs.CacheList.{CacheList}
 use Rattle.cache_model.specs.Stands.{FlashStandsFor}
 use Rattle.ssc.specs.declared.cache.Ssc.{Ssc}
-use Rattle.ssc.specs.CacheState.{Holds, geometry_of, pending}
+use Rattle.ssc.specs.CacheState.{Holds, geometry_of}
 
 -- the cache holds only such blocks, and a crash would leave only such blocks
 pub record HoldsOwn (c : Ssc) (contents : Contents) : Type 0 where
   pub list : CacheList
   pub holds : Holds c contents list
   pub own : AreOwn list
-  pub durable : AreOwn (undo (pending c) list)
+  pub durable : AreOwn (undo holds.waiting list)
 
 -- loading gives only such blocks
 pub record LoadsOwn (g : Geometry) (page : Place → Page) : Type 0 where

@@ -1,16 +1,17 @@
-ghost use Rattle.std.specs.Prelude.{◌≡◌, ◌≤◌, ◌+◌, ◌*◌, true, false, IsOk, OnOk, OnErr, length};
+ghost use Rattle.std.specs.Prelude.{◌≡◌, ◌≤◌, ◌+◌, ◌*◌, true, false, IsOk, OnOk, OnErr, count_by, length};
 ghost use Rattle.std.specs.FinMap.{entries};
 ghost use Rattle.ft_base.specs.Contents.{Contents};
 ghost use Rattle.ft_base.specs.Layout.{most_page_records};
 ghost use Rattle.cache_model.specs.Buckets.{AreBucketsFor, AreFewFor};
-ghost use Rattle.cache_model.specs.Cache.{dirty_groups};
+ghost use Rattle.cache_model.specs.Cache.{dirty_groups, is_write};
 ghost use Rattle.cache_model.specs.CacheList.{CacheList};
 ghost use Rattle.mapping.specs.Bits.{chosen_of};
 ghost use Rattle.mapping.specs.Counts.{held_count};
 ghost use Rattle.mapping.specs.declared.bits.Choice.TheVariants.{Dirty};
 ghost use Rattle.ssc.specs.Listed.{dirty_pages};
-ghost use Rattle.ssc.specs.CacheState.{Holds, HasMemory, IsAsBefore, TookRoom, entries_of, geometry_of, log_room, open_room, pending};
+ghost use Rattle.ssc.specs.CacheState.{Holds, HoldsBeside, HasMemory, IsAsBefore, TookRoom, entries_of, geometry_of, log_room, open_room, pending};
 
+use crate::earlier::Places;
 use merge_engine::Parts;
 use std::alloc::AllocError;
 
@@ -18,6 +19,8 @@ use std::alloc::AllocError;
 #[derive(Drop)]
 pub struct Ssc {
     pub(crate) parts: Parts,
+    // What the address of each write that is only buffered had just before it.
+    pub(crate) before: Places,
     // The memory of the next write is ready.
     pub(crate) ready: bool,
     // A command that writes failed or was cut: the flash must be opened again.
@@ -79,6 +82,14 @@ impl Ssc {
         self.parts.log.buffered()
     }
 
+    /// How many of them are writes.
+    pub fn later(&self) -> u32
+        ensures { (contents : Contents) (s : CacheList) → Holds self.now contents s
+            → result ≡ count_by is_write (pending self.now) }
+    {
+        self.before.len()
+    }
+
     /// The log pages that are left before a checkpoint.
     pub fn log_room(&self) -> u32
         ensures { (contents : Contents) (s : CacheList) → Holds self.now contents s → result ≡ log_room self.now }
@@ -96,12 +107,14 @@ impl Ssc {
     /// Takes the memory of the next write: for its page, and for the groups that it may merge. On `Err` nothing has
     /// changed, except the order of the map's records and its buckets, which may have doubled as that memory needs.
     pub fn reserve(&mut self) -> Result<(), AllocError>
-        ensures holds { (contents : Contents) (s : CacheList) → Holds self.old contents s → Holds self.new contents s }
+        ensures holds { (contents : Contents) (s : CacheList) (h : Holds self.old contents s)
+            → HoldsBeside self.new contents s h.waiting }
         ensures same { geometry_of self.new ≡ geometry_of self.old }
         ensures parts { self.new.parts ≡ record self.old.parts { map = self.new.parts.map } }
         ensures entries { entries_of self.new ≡ entries_of self.old }
         ensures pending { pending self.new ≡ pending self.old }
         ensures stopped { self.new.stopped ≡ self.old.stopped }
+        ensures places { self.new.before ≡ self.old.before }
         ensures ready { OnOk result (self.new.ready ≡ true) }
         ensures memory { OnOk result (self.old.ready ≡ false → HasMemory self.new.parts) }
         ensures room { OnOk result (self.old.ready ≡ false → TookRoom self.old.parts self.new.parts) }

@@ -5,16 +5,16 @@ ghost use Rattle.ft_base.specs.Layout.{page_records};
 ghost use Rattle.ft_media.specs.Drives.{OnlyDrives};
 ghost use Rattle.ft_media.specs.Reads.{ReadsFlash};
 ghost use Rattle.ft_media.specs.Media.{program_counted};
-ghost use Rattle.cache_model.specs.Cache.{Inserted, Cleaned, written_dirty, written_clean, evicted, made_clean, dirty_between, written_block};
+ghost use Rattle.cache_model.specs.Cache.{Inserted, Cleaned, Written, undo, written_dirty, written_clean, evicted, made_clean, dirty_between, written_block};
 ghost use Rattle.cache_model.specs.CacheList.{CacheList};
 ghost use Rattle.cache_model.specs.declared.entry.Entry.{Entry};
 ghost use Rattle.merge_engine.specs.Agreement.{PartsAgree, Lists};
 ghost use Rattle.ssc.specs.Errors.{ssc_failed, ssc_lost};
 ghost use Rattle.ssc.specs.CacheState.{HasMemory, Holds, IsUp, entries_of, geometry_of, log_room, open_room, pending};
-ghost use Rattle.ssc.specs.Kept.{CostsCheckpoint, CostsClean, CostsCommit, CostsDirty, KeepsInRoom, TakesNoMemory, RefusesWrite, RunsCommand, RunsInPlace};
+ghost use Rattle.ssc.specs.Kept.{CostsCheckpoint, CostsClean, CostsCommit, CostsDirty, CostsLater, KeepsInRoom, TakesNoMemory, RefusesWrite, RunsCommand, RunsInPlace};
 ghost use Rattle.ssc.specs.Own.{KeepsOwn};
 ghost use Rattle.ssc.specs.Steps.{IsPushed, LeavesPut, MayStep, PutsBlock, PutsPages};
-ghost use Rattle.ssc.specs.Commands.{ImagesOf, ImagesOfWrite, FullExactly, HoldsWritten, PendsWith, IsDirtyIn, IsHeldIn, ReadOf, UnlessFound};
+ghost use Rattle.ssc.specs.Commands.{ImagesOf, ImagesOfWrite, FullExactly, HoldsBuffered, HoldsPending, HoldsWritten, IsDirtyIn, IsHeldIn, ReadOf, UnlessFound};
 
 use crate::error::of_media;
 use crate::putting::{mark_clean, take_out, write_buffered, write_committed};
@@ -43,8 +43,8 @@ impl Ssc {
             → HoldsWritten self.new (M.state media.new).contents s lba (written_dirty lba block.now)) }
         ensures nothing_waits { OnOk result (pending self.new ≡ []) }
         // Whatever the call answers, and whenever power goes off.
-        ensures images { (s : CacheList) → Holds self.old (M.state media.old).contents s
-            → ImagesOfWrite self.old (M.state media.new).contents s lba (written_dirty lba block.now) }
+        ensures images { (s : CacheList) (h : Holds self.old (M.state media.old).contents s)
+            → ImagesOfWrite self.old (M.state media.new).contents (undo h.waiting s) s lba (written_dirty lba block.now) }
         // Blocks that were each written for their own address stay so.
         ensures own { KeepsOwn self.old (M.state media.old).contents self.new (M.state media.new).contents }
         ensures in_room { KeepsInRoom self.old self.new (M.state media.old) (M.state media.new) (written_dirty lba block.now) result }
@@ -61,7 +61,54 @@ impl Ssc {
         }
         self.ready = false;
         match write_committed(&mut self.parts, media, lba, block, true) {
-            Ok(()) => Ok(()),
+            Ok(()) => {
+                self.before.clear();
+                Ok(())
+            }
+            Err(error) => Err(self.give_up(error)),
+        }
+    }
+
+    /// Holds the block at an address, dirty. A crash may bring back what was there before, until the write is committed.
+    ///
+    /// It fails when `write_dirty` would, and leaves the same.
+    pub fn write_later<M: Media>(
+        &mut self,
+        media: &mut M,
+        lba: u64,
+        block: &Block,
+    ) -> Result<(), SscError>
+        requires up { IsUp self.old (M.state media.old).contents }
+        requires lba { lba < (geometry_of self.old).size }
+        ensures runs { RunsCommand self.old self.new (M.state media.old) (M.state media.new) result }
+        ensures full { (s : CacheList) → Holds self.old (M.state media.old).contents s → FullExactly (geometry_of self.old) s lba result }
+        ensures refused { RefusesWrite self.old self.new (M.state media.old) (M.state media.new) result }
+        ensures done { OnOk result ((s : CacheList) (h : Holds self.old (M.state media.old).contents s)
+            → HoldsBuffered self.new (M.state media.new).contents s h.waiting lba (written_dirty lba block.now)
+            (λ v. Written lba (get v lba))) }
+        // Whatever the call answers, and whenever power goes off.
+        ensures images { (s : CacheList) (h : Holds self.old (M.state media.old).contents s)
+            → ImagesOfWrite self.old (M.state media.new).contents (undo h.waiting s) s lba (written_dirty lba block.now) }
+        // Blocks that were each written for their own address stay so.
+        ensures own { KeepsOwn self.old (M.state media.old).contents self.new (M.state media.new).contents }
+        ensures in_room { KeepsInRoom self.old self.new (M.state media.old) (M.state media.new) (written_dirty lba block.now) result }
+        ensures costs { CostsLater self.old self.new lba (M.state media.old) (M.state media.new) result }
+    {
+        if self.is_full(lba) {
+            return Err(SscError::Full {
+                dirty_groups: self.parts.geometry.c + 1,
+                limit: self.parts.geometry.c,
+            });
+        }
+        if self.reserve().is_err() {
+            return Err(SscError::OutOfMemory);
+        }
+        self.ready = false;
+        match write_buffered(&mut self.parts, media, lba, block, true) {
+            Ok(before) => {
+                self.before.note(self.parts.log.buffered(), before);
+                Ok(())
+            }
             Err(error) => Err(self.give_up(error)),
         }
     }
@@ -82,11 +129,11 @@ impl Ssc {
             → HoldsWritten self.new (M.state media.new).contents s lba (written_clean lba block.now)) }
         ensures over_held { OnOk result ((s : CacheList) → Holds self.old (M.state media.old).contents s → IsHeldIn s lba
             → pending self.new ≡ []) }
-        ensures at_absent { OnOk result ((s : CacheList) → Holds self.old (M.state media.old).contents s → get s lba ≡ None
-            → PendsWith (pending self.old) (pending self.new) (Inserted lba)) }
+        ensures at_absent { OnOk result ((s : CacheList) (h : Holds self.old (M.state media.old).contents s) → get s lba ≡ None
+            → HoldsBuffered self.new (M.state media.new).contents s h.waiting lba (written_clean lba block.now) (λ v. Inserted lba)) }
         // Whatever the call answers, and whenever power goes off.
-        ensures images { (s : CacheList) → Holds self.old (M.state media.old).contents s
-            → ImagesOfWrite self.old (M.state media.new).contents s lba (written_clean lba block.now) }
+        ensures images { (s : CacheList) (h : Holds self.old (M.state media.old).contents s)
+            → ImagesOfWrite self.old (M.state media.new).contents (undo h.waiting s) s lba (written_clean lba block.now) }
         // Blocks that were each written for their own address stay so.
         ensures own { KeepsOwn self.old (M.state media.old).contents self.new (M.state media.new).contents }
         ensures in_room { KeepsInRoom self.old self.new (M.state media.old) (M.state media.new) (written_clean lba block.now) result }
@@ -97,7 +144,10 @@ impl Ssc {
         }
         self.ready = false;
         match self.put_clean(media, lba, block) {
-            Ok(()) => Ok(()),
+            Ok(()) => {
+                self.before.forget(self.parts.log.buffered());
+                Ok(())
+            }
             Err(error) => Err(self.give_up(error)),
         }
     }
@@ -132,7 +182,8 @@ impl Ssc {
         if self.is_held(lba) {
             return write_committed(&mut self.parts, media, lba, block, false);
         }
-        write_buffered(&mut self.parts, media, lba, block)
+        write_buffered(&mut self.parts, media, lba, block, false)?;
+        Ok(())
     }
 
     /// Reads the block of an address. It answers false if the address isn't held. It changes nothing, and `block` gets
@@ -178,8 +229,8 @@ impl Ssc {
             → pending self.new ≡ []) }
         ensures absent { OnOk result ((s : CacheList) → Holds self.old (M.state media.old).contents s → get s lba ≡ None
             → (self.new ≡ self.old) × (M.state media.new ≡ M.state media.old)) }
-        ensures images { (s : CacheList) → Holds self.old (M.state media.old).contents s
-            → ImagesOf self.old (M.state media.new).contents s (evicted lba s) }
+        ensures images { (s : CacheList) (h : Holds self.old (M.state media.old).contents s)
+            → ImagesOf self.old (M.state media.new).contents (undo h.waiting s) s (evicted lba s) }
         // Blocks that were each written for their own address stay so.
         ensures own { KeepsOwn self.old (M.state media.old).contents self.new (M.state media.new).contents }
         ensures one_program { OnOk result ((s : CacheList) → Holds self.old (M.state media.old).contents s → IsHeldIn s lba
@@ -189,7 +240,10 @@ impl Ssc {
             return Ok(());
         }
         match take_out(&mut self.parts, media, lba) {
-            Ok(()) => Ok(()),
+            Ok(()) => {
+                self.before.clear();
+                Ok(())
+            }
             Err(error) => Err(self.give_up(error)),
         }
     }
@@ -201,14 +255,14 @@ impl Ssc {
         ensures runs { RunsInPlace self.old self.new (M.state media.old) (M.state media.new) result }
         ensures done { OnOk result ((s : CacheList) → Holds self.old (M.state media.old).contents s
             → Holds self.new (M.state media.new).contents (made_clean lba s)) }
-        ensures of_dirty { OnOk result ((s : CacheList) → Holds self.old (M.state media.old).contents s → IsDirtyIn s lba
-            → PendsWith (pending self.old) (pending self.new) (Cleaned lba)) }
+        ensures of_dirty { OnOk result ((s : CacheList) (h : Holds self.old (M.state media.old).contents s) → IsDirtyIn s lba
+            → HoldsPending self.new (M.state media.new).contents (made_clean lba s) h.waiting (Cleaned lba)) }
         ensures of_other { OnOk result ((s : CacheList) → Holds self.old (M.state media.old).contents s → (IsDirtyIn s lba → ⊥)
             → (self.new ≡ self.old) × (M.state media.new ≡ M.state media.old)) }
         ensures no_write { OnOk result (length (pending self.old) + 2 ≤ page_records (geometry_of self.old)
             → M.state media.new ≡ M.state media.old) }
-        ensures images { (s : CacheList) → Holds self.old (M.state media.old).contents s
-            → ImagesOf self.old (M.state media.new).contents s (made_clean lba s) }
+        ensures images { (s : CacheList) (h : Holds self.old (M.state media.old).contents s)
+            → ImagesOf self.old (M.state media.new).contents (undo h.waiting s) s (made_clean lba s) }
         // Blocks that were each written for their own address stay so.
         ensures own { KeepsOwn self.old (M.state media.old).contents self.new (M.state media.new).contents }
     {
@@ -216,7 +270,10 @@ impl Ssc {
             return Ok(());
         }
         match mark_clean(&mut self.parts, media, lba) {
-            Ok(()) => Ok(()),
+            Ok(()) => {
+                self.before.forget(self.parts.log.buffered());
+                Ok(())
+            }
             Err(error) => Err(self.give_up(error)),
         }
     }
@@ -240,14 +297,17 @@ impl Ssc {
         ensures done { OnOk result ((s : CacheList) → Holds self.old (M.state media.old).contents s
             → Holds self.new (M.state media.new).contents s) }
         ensures nothing_waits { OnOk result (pending self.new ≡ []) }
-        ensures images { (s : CacheList) → Holds self.old (M.state media.old).contents s
-            → ImagesOf self.old (M.state media.new).contents s s }
+        ensures images { (s : CacheList) (h : Holds self.old (M.state media.old).contents s)
+            → ImagesOf self.old (M.state media.new).contents (undo h.waiting s) s s }
         // Blocks that were each written for their own address stay so.
         ensures own { KeepsOwn self.old (M.state media.old).contents self.new (M.state media.new).contents }
         ensures costs { CostsCommit self.old self.new (M.state media.old) (M.state media.new) result }
     {
         match merge_engine::commit(&mut self.parts, media) {
-            Ok(()) => Ok(()),
+            Ok(()) => {
+                self.before.clear();
+                Ok(())
+            }
             Err(error) => Err(self.give_up(error)),
         }
     }
@@ -261,13 +321,16 @@ impl Ssc {
         ensures nothing_waits { OnOk result (pending self.new ≡ []) }
         ensures log { OnOk result (self.new.parts.log.next ≡ 0) }
         ensures costs { CostsCheckpoint self.old self.new (M.state media.old) (M.state media.new) result }
-        ensures images { (s : CacheList) → Holds self.old (M.state media.old).contents s
-            → ImagesOf self.old (M.state media.new).contents s s }
+        ensures images { (s : CacheList) (h : Holds self.old (M.state media.old).contents s)
+            → ImagesOf self.old (M.state media.new).contents (undo h.waiting s) s s }
         // Blocks that were each written for their own address stay so.
         ensures own { KeepsOwn self.old (M.state media.old).contents self.new (M.state media.new).contents }
     {
         match merge_engine::make_checkpoint(&mut self.parts, media) {
-            Ok(()) => Ok(()),
+            Ok(()) => {
+                self.before.clear();
+                Ok(())
+            }
             Err(error) => Err(self.give_up(error)),
         }
     }

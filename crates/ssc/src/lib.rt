@@ -1,4 +1,4 @@
-//! The solid-state cache: a device that is addressed by the disk's own addresses, with six commands.
+//! The solid-state cache: a device that is addressed by the disk's own addresses, with seven commands.
 //!
 //! The layers above see a cache and its flash as a list of held blocks, each dirty or clean (`Holds`). They rely on
 //! this: each command that answers `Ok` is its step on the list. A crash at any moment of a command leaves flash that
@@ -10,6 +10,7 @@
 
 mod cache;
 mod commands;
+mod earlier;
 mod error;
 mod formatting;
 mod listing;

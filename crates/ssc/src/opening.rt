@@ -19,6 +19,7 @@ ghost use Rattle.ssc.specs.Own.{HoldsOwn, LoadsOwn};
 ghost use Rattle.ssc.specs.Steps.{IsLoadedAs};
 
 use crate::Ssc;
+use crate::earlier::Places;
 use ft_base::Geometry;
 use ft_media::{Media, MediaError};
 use merge_engine::{Parts, make_checkpoint};
@@ -83,9 +84,11 @@ impl LoadedCache {
     {
         let loaded = load(alloc, media, geometry)?;
         let parts = parts_of(alloc, geometry, loaded)?;
+        let before = Places::new(alloc)?;
         Ok(LoadedCache {
             cache: Ssc {
                 parts,
+                before,
                 ready: false,
                 stopped: false,
             },

@@ -15,6 +15,7 @@ ghost use Rattle.ssc.specs.CacheState.{HasMemory, entries_of, geometry_of};
 ghost use Rattle.ssc.specs.Kept.{TakesNoMemory};
 ghost use Rattle.ssc.specs.Steps.{IsPushed, LeavesPut, LeftOf, ListsAfter, MayStep, PutsBlock, PutsPages, FlashStandsForEither};
 
+use crate::earlier::Before;
 use crate::error::of_media;
 use crate::{Ssc, SscError};
 use ft_base::Block;
@@ -91,40 +92,44 @@ pub(crate) fn write_committed<M: Media>(
     commit(parts, media)
 }
 
-/// Puts a block at an address, clean. This is only buffered, unless the buffer is full.
+/// Puts a block at an address, dirty or clean, and answers what the address had. This is only buffered, unless
+/// the buffer is full.
 pub(crate) fn write_buffered<M: Media>(
     parts: &mut Parts,
     media: &mut M,
     lba: u64,
     block: &Block,
-) -> Result<(), MediaError>
+    dirty: bool,
+) -> Result<Option<Before>, MediaError>
     requires may { MayStep parts.old (M.state media.old).contents lba }
     requires memory { HasMemory parts.old }
+    requires dirty { dirty ≡ true → HasRoomFor parts.old.geometry parts.old.map.entries lba }
     ensures kept { TakesNoMemory parts.old parts.new }
     ensures agree { OnOk result (PartsAgree parts.new (M.state media.new).contents) }
     ensures few { OnOk result (length parts.new.log.buffered < page_records parts.new.log.geometry) }
     ensures lists { OnOk result ((list durable : CacheList) → Lists parts.old (M.state media.old).contents.flash.page list durable
-        → PutsBlock parts.old lba (written_block lba block.now false) parts.new (M.state media.new).contents.flash.page durable list) }
+        → PutsBlock parts.old lba (written_block lba block.now dirty) parts.new (M.state media.new).contents.flash.page durable list) }
     ensures leaves { LeavesPut parts.old (M.state media.old).contents.flash.page (M.state media.new).contents.flash.page lba
-        (written_block lba block.now false) }
+        (written_block lba block.now dirty) }
     ensures one_program { OnOk result (1 ≤ parts.old.log_blocks.room
         → length parts.old.log.buffered + 2 ≤ page_records parts.old.log.geometry
-        → IsPushed parts.old lba false parts.new × ((M.state media.new).counts ≡ program_counted (M.state media.old).counts)) }
+        → IsPushed parts.old lba dirty parts.new × ((M.state media.new).counts ≡ program_counted (M.state media.old).counts)) }
     ensures pages { OnOk result (PutsPages 1 parts.old parts.new (M.state media.old) (M.state media.new)) }
     ensures drives { OnlyDrives (M.state media.old) (M.state media.new) result }
 {
-    write_page(parts, media, lba, block, false)?;
-    commit_if_full(parts, media)
+    let before = write_page(parts, media, lba, block, dirty)?;
+    commit_if_full(parts, media)?;
+    Ok(before)
 }
 
-/// Appends a block, and puts its address at its page.
+/// Appends a block, puts its address at its page, and answers what the address had.
 fn write_page<M: Media>(
     parts: &mut Parts,
     media: &mut M,
     lba: u64,
     block: &Block,
     dirty: bool,
-) -> Result<(), MediaError>
+) -> Result<Option<Before>, MediaError>
     requires may { MayStep parts.old (M.state media.old).contents lba }
     requires memory { HasMemory parts.old }
     requires dirty { dirty ≡ true → HasRoomFor parts.old.geometry parts.old.map.entries lba }
@@ -146,8 +151,16 @@ fn write_page<M: Media>(
 {
     // The page is programmed first, because a log page may name only whole pages.
     let place = append(parts, media, lba, block)?;
+    // A merge may have moved the address, so it is looked up here.
+    let before = before_of(parts, lba);
     put_page(parts, lba, place, dirty);
-    Ok(())
+    Ok(before)
+}
+
+/// The page of an address, and whether it is dirty.
+fn before_of(parts: &Parts, lba: u64) -> Option<Before> {
+    let (place, dirty) = parts.map.place(lba)?;
+    Some(Before { place, dirty })
 }
 
 /// Takes an address out, and commits this.

@@ -15,6 +15,7 @@ use Rattle.cache_model.proofs.MapLemmas.{get_insert}
 use Rattle.ssc.specs.declared.cache.Ssc.{Ssc}
 use Rattle.ssc.specs.CacheState.{Holds, geometry_of, pending}
 use Rattle.ssc.specs.Commands.{HoldsWritten}
+use Rattle.ssc.proofs.HoldsLemmas.{nothing_waits}
 use Rattle.cached_disk.specs.declared.disk.CachedDisk.{CachedDisk}
 use Rattle.cached_disk.specs.Kept as kept
 use Rattle.cached_disk.proofs.DiskLemmas.{one_value, same_list}
@@ -28,7 +29,7 @@ written_alone g k c mid contents lba block written own holds nothing s stands a 
     by_choice (a == lba) refl (sym (get_insert written.left lba (written_block lba block false) a) ∙ ap (λ (t : CacheList). get t a) (sym same) ∙ at)
   where
     now : FlashStandsFor g contents.flash.page (written_clean lba block written.left)
-    now = subst (λ (x : Geometry). FlashStandsFor x contents.flash.page (written_clean lba block written.left)) own (subst (λ (q : List Buffered). FlashStandsFor (geometry_of c) contents.flash.page (undo q (written_clean lba block written.left))) nothing holds.lists.stands)
+    now = subst (λ (x : Geometry). FlashStandsFor x contents.flash.page (written_clean lba block written.left)) own (subst (λ (q : List Buffered). FlashStandsFor (geometry_of c) contents.flash.page (undo q (written_clean lba block written.left))) (nothing_waits c contents (written_clean lba block written.left) holds nothing) holds.lists.stands)
 
     same : s ≡ written_clean lba block written.left
     same = same_list g contents.flash.page s (written_clean lba block written.left) stands now

@@ -11,7 +11,7 @@ use Rattle.ft_base.specs.declared.block.Place.{Place}
 use Rattle.ft_base.specs.declared.block.Page.{Page}
 use Rattle.ft_base.specs.declared.geometry.Geometry.{Geometry}
 use Rattle.ft_base.specs.declared.told.Mode.{Mode}
-use Rattle.ft_base.specs.declared.told.Mode.TheVariants.{Back}
+use Rattle.ft_base.specs.declared.told.Mode.TheVariants.{Back, Through}
 use Rattle.ft_base.specs.Contents.{Contents, Shape, Values}
 use Rattle.ft_base.specs.PlainDisk.{PlainDisk}
 use Rattle.ft_base.proofs.Images.{newest_image, with_newest}
@@ -19,7 +19,7 @@ use Rattle.ft_media.specs.State.{State}
 use Rattle.ft_media.specs.Drives.{DrivesFlash}
 use Rattle.ft_volume.specs.Opening.{Suits}
 use Rattle.ft_volume.specs.declared.volume.VolumeError.{VolumeError}
-use Rattle.cache_model.specs.Cache.{made_clean, marked_as, undo}
+use Rattle.cache_model.specs.Cache.{Cleaned, made_clean, marked_as, undo}
 use Rattle.cache_model.specs.CacheList.{Agrees, CacheList, Held, held_or}
 use Rattle.cache_model.specs.Stands.{FlashStandsFor}
 use Rattle.cache_model.proofs.UndoLemmas.{get_marked}
@@ -28,16 +28,17 @@ use Rattle.ssc.specs.declared.cache.Ssc.{Ssc}
 use Rattle.ssc.specs.declared.error.SscError.{SscError}
 use Rattle.ssc.specs.declared.error.SscError.TheVariants.{Full, OutOfMemory}
 use Rattle.ssc.specs.CacheState.{Holds, geometry_of, pending}
-use Rattle.ssc.specs.Commands.{ImagesOf, FlashStandsForOne, AsUndone, AsBefore, AsAfter}
+use Rattle.ssc.specs.Commands.{HoldsPending, ImagesOf, FlashStandsForOne, AsUndone, AsBefore, AsAfter}
 use Rattle.ssc.specs.Errors.{ssc_failed, ssc_lost, stops}
-use Rattle.ssc.proofs.HoldsLemmas.{none_written}
+use Rattle.ssc.proofs.LosingLemmas.{pends_shapes}
 use Rattle.cached_disk.specs.declared.disk.CachedDisk.{CachedDisk}
 use Rattle.cached_disk.specs.Errors.{IsOfCache}
 use Rattle.cached_disk.specs.Kept.{IsBeneath, IsDirtyIn, IsHeld, IsLeft, MayUndo, dirty_of, is_down, told_of, WritesDisk}
 use Rattle.cached_disk.proofs.DiskLemmas.{IsOver, one_value, over_stands}
 use Rattle.cache_model.proofs.CountLemmas.{equals_turned}
-use Rattle.cached_disk.proofs.StepLemmas.{IsSameOver, over_same, undo_agrees}
-use Rattle.cached_disk.proofs.HeldLemmas.{Stays, down_left, drove, goes_on, held_left, held_over, held_stands, own_flash, step_beneath, step_over, stopped_down, undone_over}
+use Rattle.cached_disk.proofs.StepLemmas.{IsSameOver, over_same}
+use Rattle.cached_disk.proofs.HeldLemmas.{Stays, down_left, drove, goes_on, held_agrees, held_at_write, held_beneath, held_left, held_over, held_stands, own_flash, step_beneath, step_over, stopped_down, undone_over}
+use Rattle.cached_disk.proofs.ReadLemmas.{none_pends}
 use Rattle.cached_disk.proofs.CallLemmas.{gives_up}
 use Rattle.write_back.specs.Left.{in_group, out_of_group}
 use Rattle.write_back.specs.Cleaning.{IsFlushed, IsOnDisk, Proceeds, is_among}
@@ -104,7 +105,7 @@ module _ (v : CachedDisk) (k : Ssc) (s t : State) (list : CacheList) (lba : ℕ)
             ∙ ap (λ (n : ℕ). (s.contents.disk n).newest) here.0
             ∙ on list is.holds was.0 (ap (λ (n : ℕ). get list n) (sym here.0) ∙ was.1)
             ∙ was.2
-        | inr same ↦ is.agrees a h b (was.1 ∙ ap (λ (x : Held). Some x) same) clean has
+        | inr same ↦ held_agrees v s.contents list is a h b (was.1 ∙ ap (λ (x : Held). Some x) same) clean has
       ]
 
   any_suits : (l : CacheList) → Suits v.mode l
@@ -120,13 +121,13 @@ module _ (v : CachedDisk) (k : Ssc) (s t : State) (list : CacheList) (lba : ℕ)
   cleaned_over : (d : PlainDisk) → IsOver v.options.geometry list s.contents.disk d → IsOver v.options.geometry after_clean s.contents.disk d
   cleaned_over d over = over_same v.options.geometry s.contents.disk list after_clean d (cleaned_same lba list s.contents.disk) over
 
-  left_by : (page : Place → Page) → FlashStandsForOne (geometry_of v.cache) page (undo (pending v.cache) list) list after_clean → IsLeftBy page
-  left_by page (AsUndone x) = record { list_of = undo (pending v.cache) list; stands = own_flash v own page (undo (pending v.cache) list) x; agrees = undo_agrees s.contents.disk list is.agrees (pending v.cache) (none_written v.cache.parts.log.buffered); over = undone_over v s.contents list own is }
-  left_by page (AsBefore x) = record { list_of = list; stands = own_flash v own page list x; agrees = is.agrees; over = λ d over. over }
+  left_by : (page : Place → Page) → FlashStandsForOne (geometry_of v.cache) page (undo is.holds.waiting list) list after_clean → IsLeftBy page
+  left_by page (AsUndone x) = record { list_of = undo is.holds.waiting list; stands = own_flash v own page (undo is.holds.waiting list) x; agrees = (held_beneath v s.contents list own is).agrees; over = undone_over v s.contents list own is }
+  left_by page (AsBefore x) = record { list_of = list; stands = own_flash v own page list x; agrees = held_agrees v s.contents list is; over = λ d over. over }
   left_by page (AsAfter x) = record { list_of = after_clean; stands = own_flash v own page after_clean x; agrees = cleaned_agrees; over = cleaned_over }
 
   -- the call failed
-  module _ (down : is_down (record v { cache = k }) ≡ true) (one : FlashStandsForOne (geometry_of v.cache) t.contents.flash.page (undo (pending v.cache) list) list after_clean) where
+  module _ (down : is_down (record v { cache = k }) ≡ true) (one : FlashStandsForOne (geometry_of v.cache) t.contents.flash.page (undo is.holds.waiting list) list after_clean) where
     beneath : IsBeneath (told_of v) t.contents (left_by t.contents.flash.page one).list_of
     beneath = let x = left_by t.contents.flash.page one in step_beneath v k s.contents t.contents stays list x.list_of x.agrees (any_suits x.list_of) x.stands
 
@@ -138,15 +139,10 @@ module _ (v : CachedDisk) (k : Ssc) (s t : State) (list : CacheList) (lba : ℕ)
         (λ d stand. over_stands (told_of v) t.contents x.list_of beneath d (step_over v k s.contents t.contents stays x.list_of d (x.over d (held_over v s.contents list own is d stand))))
 
   -- the call was done
-  module _ (holds : Holds k t.contents after_clean) where
+  module _ (holds : Holds k t.contents after_clean) (may : MayUndo (told_of v) (pending k)) where
     pub held_clean : IsHeld (record v { cache = k }) t.contents after_clean
-    held_clean = record {
-      holds = holds;
-      agrees = λ a h b at clean has. cleaned_agrees a h b at clean (stays.had a b has);
-      settled = λ a. inl (stays.settled a (alone a));
-      suits = any_suits after_clean;
-      undo = subst (λ (m : Mode). MayUndo m (pending k)) (sym back) tt;
-    }
+    held_clean = held_at_write (record v { cache = k }) t.contents after_clean holds (λ a h b at clean has. cleaned_agrees a h b at clean (stays.had a b has))
+        (λ a. inl (stays.settled a (alone a))) (any_suits after_clean) may
 
     pub clean_done : is_down (record v { cache = k }) ≡ false → k.ready ≡ v.cache.ready → Answers s t → WritesDisk 0 s t (Ok tt) → Proceeds 0 v (record v { cache = k }) s t (Ok tt)
     clean_done up reserved answers writes = record {
@@ -211,13 +207,44 @@ module _ (v : CachedDisk) (k : Ssc) (s t : State) (list : CacheList) (lba : ℕ)
         let was = cleaned_was lba list a h (ap (λ (x : CacheList). get x a) (sym one) ∙ at) in
         ap (λ (f : ℕ → Values). (f a).newest) disk ∙ on_a list is.holds was.0 was.1 ∙ was.2
 
+-- no write waits after a clean
+pub cleaned_may : (v : CachedDisk) (k : Ssc) (s t : State) (lba : ℕ) (left : IsLeft v s.contents) → is_down v ≡ false → v.mode ≡ Back
+    → ((l : CacheList) (h : Holds v.cache s.contents l) → IsDirtyIn l lba → HoldsPending k t.contents (made_clean lba l) h.waiting (Cleaned lba))
+    → ((l : CacheList) → Holds v.cache s.contents l → (IsDirtyIn l lba → ⊥) → (k ≡ v.cache) × (t ≡ s)) → MayUndo (told_of v) (pending k)
+cleaned_may v k s t lba left up back of_dirty of_other = by (get left.held lba) refl
+  where
+    is : IsHeld v s.contents left.held
+    is = left.up up
+
+    kept : (IsDirtyIn left.held lba → ⊥) → MayUndo (told_of v) (pending k)
+    kept none = subst (λ (c : Ssc). MayUndo (told_of v) (pending c)) (sym (of_other left.held is.holds none).0) is.may_undo
+
+    more : IsDirtyIn left.held lba → MayUndo (told_of v) (pending k)
+    more dirty =
+        let now = of_dirty left.held is.holds dirty in
+        let pends = pends_shapes v.cache k s.contents t.contents left.held (made_clean lba left.held) is.holds now.holds (Cleaned lba) now.pends in
+        record {
+          through = λ through. absurd (let both : Back ≡ Through = sym back ∙ through in cc);
+          at_write = λ at_write. none_pends (pending v.cache) (pending k) (Cleaned lba) refl pends (is.may_undo.at_write at_write);
+        }
+
+    by : (o : Option Held) → get left.held lba ≡ o → MayUndo (told_of v) (pending k)
+    by None at = kept (λ dirty. let both : None ≡ Some dirty.0 = sym at ∙ dirty.1 in cc)
+    by (Some h) at = elim (cases_Bool h.dirty) [
+      | inl t ↦ more (h, at, t)
+      | inr f ↦ kept (λ dirty.
+          let both : Some h ≡ Some dirty.0 = sym at ∙ dirty.1 in
+          let same : h ≡ dirty.0 = cc in
+          false≢true (sym f ∙ ap (λ (x : Held). x.dirty) same ∙ dirty.2))
+    ]
+
 -- once `clean` answered
 module _ (v : CachedDisk) (k : Ssc) (e : SscError) (full : (n limit : ℕ) → e ≡ Full n limit → ⊥) (memory : e ≡ OutOfMemory → ⊥) (stopped : k.stopped ≡ stops {T = Unit {0}} (Err e)) where
   pub once_stopped : is_down (record v { cache = k }) ≡ true
   once_stopped = stopped_down v k (stopped ∙ gives_up e full memory)
 
 module _ (v : CachedDisk) (k : Ssc) (s t : State) (lba : ℕ) (left : IsLeft v s.contents) (up : is_down v ≡ false) (back : v.mode ≡ Back) (alone : IsFlushed s.contents) (on : IsOnDisk v s.contents lba) (geometry : geometry_of k ≡ geometry_of v.cache) (reserved : k.ready ≡ v.cache.ready) where
-  module _ (drives : DrivesFlash s t false false) (done : (l : CacheList) → Holds v.cache s.contents l → Holds k t.contents (made_clean lba l)) where
+  module _ (drives : DrivesFlash s t false false) (done : (l : CacheList) → Holds v.cache s.contents l → Holds k t.contents (made_clean lba l)) (may : MayUndo (told_of v) (pending k)) where
     abbrev disk_stays : Stays s.contents t.contents
     disk_stays = drove s.contents t.contents false drives.disk drives.crash
 
@@ -226,20 +253,20 @@ module _ (v : CachedDisk) (k : Ssc) (s t : State) (lba : ℕ) (left : IsLeft v s
 
     pub once_clean : k.stopped ≡ false → Proceeds 0 v (record v { cache = k }) s t (Ok tt)
     once_clean goes =
-        clean_done v k s t left.held lba left.own left.shape (left.up up) back alone on disk_stays drives.passes.shape geometry holds_clean
+        clean_done v k s t left.held lba left.own left.shape (left.up up) back alone on disk_stays drives.passes.shape geometry holds_clean may
         (or_from v.down k.stopped (goes_on v up).0 goes) reserved (answers_drive s t drives) (writes_nothing s t drives.disk_writes drives.disk_reads)
 
     pub once_cleaned : (a : ℕ) → is_among (dirty_of (record v { cache = k })) a ≡ (is_among (dirty_of v) a && not (lba == a))
-    once_cleaned = clean_dirty v k s t left.held lba left.own left.shape (left.up up) back alone on disk_stays drives.passes.shape geometry holds_clean
+    once_cleaned = clean_dirty v k s t left.held lba left.own left.shape (left.up up) back alone on disk_stays drives.passes.shape geometry holds_clean may
 
     pub once_flushed : IsFlushed t.contents
     once_flushed a = disk_stays.settled a (alone a)
 
     pub once_on_disk : (a : ℕ) → IsOnDisk v s.contents a → IsOnDisk (record v { cache = k }) t.contents a
-    once_on_disk = clean_on_disk v k s t left.held lba left.own left.shape (left.up up) back alone on disk_stays drives.passes.shape geometry holds_clean (drives.disk.stays refl)
+    once_on_disk = clean_on_disk v k s t left.held lba left.own left.shape (left.up up) back alone on disk_stays drives.passes.shape geometry holds_clean may (drives.disk.stays refl)
 
   pub once_refused : (e : SscError) (r : VolumeError) → IsOfCache e r → ((n limit : ℕ) → e ≡ Full n limit → ⊥) → (e ≡ OutOfMemory → ⊥) → k.stopped ≡ stops {T = Unit {0}} (Err e) → DrivesFlash s t (ssc_failed {T = Unit {0}} (Err e)) (ssc_lost {T = Unit {0}} (Err e))
-      → ((l : CacheList) → Holds v.cache s.contents l → ImagesOf v.cache t.contents l (made_clean lba l)) → Proceeds 0 v (record v { cache = k }) s t (Err r)
+      → ((l : CacheList) (h : Holds v.cache s.contents l) → ImagesOf v.cache t.contents (undo h.waiting l) l (made_clean lba l)) → Proceeds 0 v (record v { cache = k }) s t (Err r)
   once_refused e r is full memory stopped drives images =
       clean_refused v k s t left.held lba left.own left.shape (left.up up) back alone on (drove s.contents t.contents (ssc_lost {T = Unit {0}} (Err e)) drives.disk drives.crash) drives.passes.shape geometry
       (once_stopped v k e full memory stopped) (images left.held (left.up up).holds (with_newest t.contents) (newest_image t.contents)) r reserved (refuses_drive s t e r is memory drives)

@@ -1,6 +1,7 @@
 -- The held blocks of dirty addresses go to the disk, and the disk is flushed.
 use Rattle.std.proofs.Common.{◌≡◌, ◌⊎◌, ℕ, ◌<◌, Bool, true, false, List, [], Option, Some, Ok, Err, inl, inr, refl, sym, ◌∙◌, ap, subst}
 use Rattle.std.specs.FinMap.{get, same_map, nat_cmp-IsAntisymmetric}
+use Rattle.std.specs.List.{list_any}
 use Rattle.std.specs.Cmp.{nat_cmp_total}
 use Rattle.std.proofs.lemmas.Bool.{cases_eq, false≢true}
 use Rattle.ft_base.specs.declared.block.Block.{Block}
@@ -19,23 +20,22 @@ use Rattle.ft_media.specs.Reads.{ReadsFlash}
 use Rattle.ft_volume.specs.Opening.{KeepsPlainDisk}
 use Rattle.ft_volume.specs.declared.volume.VolumeError.{VolumeError}
 use Rattle.ft_volume.specs.declared.volume.VolumeError.TheVariants as volume
-use Rattle.cache_model.specs.Cache.{undo}
+use Rattle.cache_model.specs.Cache.{is_write, undo}
 use Rattle.cache_model.specs.CacheList.{Agrees, CacheList, Held, held_or}
 use Rattle.cache_model.specs.Stands.{FlashStandsFor}
 use Rattle.op_log.specs.Log.{FitsOn}
 use Rattle.ssc.specs.declared.cache.Ssc.{Ssc}
 use Rattle.ssc.specs.declared.error.SscError.{SscError}
 use Rattle.ssc.specs.declared.error.SscError.TheVariants.{OutOfMemory}
-use Rattle.ssc.specs.CacheState.{Holds, geometry_of, pending}
+use Rattle.ssc.specs.CacheState.{Holds, geometry_of}
 use Rattle.ssc.specs.Commands.{ReadOf}
-use Rattle.ssc.proofs.HoldsLemmas.{none_written}
 use Rattle.ssc.specs.Errors.{ssc_failed, ssc_lost}
 use Rattle.cached_disk.specs.declared.disk.CachedDisk.{CachedDisk}
 use Rattle.cached_disk.specs.Errors.{IsOfCache, disk_error}
 use Rattle.cached_disk.specs.Kept.{IsBeneath, IsDirtyIn, IsHeld, IsLeft, dirty_of, is_down, told_of, WritesDisk}
 use Rattle.cached_disk.proofs.DiskLemmas.{IsOver, over_stands}
 use Rattle.cached_disk.proofs.StepLemmas.{over_same, undo_agrees, undo_same}
-use Rattle.cached_disk.proofs.HeldLemmas.{down_left, held_beneath, held_left, held_over, holds_over}
+use Rattle.cached_disk.proofs.HeldLemmas.{down_left, held_agrees, held_at_write, held_beneath, held_left, held_over, holds_over, none_later}
 use Rattle.write_back.specs.Cleaning.{IsFlushed, IsOnDisk, Proceeds, is_among}
 use Rattle.cached_disk.proofs.AddressLemmas.{has_lba, holds_lbas, holds_within, lbas_dirty, lbas_has}
 use Rattle.write_back.proofs.PartLemmas.{Answers, CallsDisk, answers_disk, answers_read, lacks_memory, proceeds_down, proceeds_then, refuses_disk, refuses_read, writes_nothing, writes_one}
@@ -89,14 +89,17 @@ shows_write s old new l lba block h at dirty own stays shape values = record {
 
 module _ (v : CachedDisk) (old new : Contents) (s : CacheList) (own : geometry_of v.cache ≡ v.options.geometry) (shape : FitsOn v.options.geometry old.shape) (is : IsHeld v old s) (shows : Shows s old new) where
   abbrev without_buffered : CacheList
-  without_buffered = undo (pending v.cache) s
+  without_buffered = undo is.holds.waiting s
+
+  none_waits : list_any is_write is.holds.waiting ≡ false
+  none_waits = (none_later v is.may_undo old s is.holds).1
 
   shape_now : FitsOn v.options.geometry new.shape
   shape_now = subst (λ (x : Shape). FitsOn v.options.geometry x) (sym shows.shape) shape
 
   agrees_now : Agrees s new.disk
   agrees_now a h b at clean has = elim (shows.values a b has) [
-    | inl had ↦ is.agrees a h b at clean had
+    | inl had ↦ held_agrees v old s is a h b at clean had
     | inr x ↦
         let one : Some x.0 ≡ Some h = sym x.1 ∙ at in
         let same : x.0 ≡ h = cc in
@@ -114,13 +117,13 @@ module _ (v : CachedDisk) (old new : Contents) (s : CacheList) (own : geometry_o
       let was = held_beneath v old s own is in
       record {
         flash = subst (λ (f : Place → Page). FlashStandsFor v.options.geometry f without_buffered) (sym shows.page) was.flash;
-        agrees = undo_agrees new.disk s agrees_now (pending v.cache) (none_written v.cache.parts.log.buffered);
+        agrees = undo_agrees new.disk s agrees_now is.holds.waiting none_waits;
         suits = was.suits;
       }
 
   pub stands_now : KeepsPlainDisk (told_of v) old new
   stands_now d stand = over_stands (told_of v) new without_buffered beneath_now d
-      (over_same v.options.geometry new.disk s without_buffered d (undo_same new.disk s agrees_now (geometry_of v.cache) (pending v.cache) (none_written v.cache.parts.log.buffered) is.holds.waits) (over_now d (held_over v old s own is d stand)))
+      (over_same v.options.geometry new.disk s without_buffered d (undo_same new.disk s agrees_now (geometry_of v.cache) is.holds.waiting none_waits is.holds.waits) (over_now d (held_over v old s own is d stand)))
 
   -- the call failed, so the volume is down
   pub left_down : (k : Ssc) → k ≡ v.cache → IsLeft (record v { cache = k; down = true }) new
@@ -129,13 +132,8 @@ module _ (v : CachedDisk) (old new : Contents) (s : CacheList) (own : geometry_o
   -- else the volume still holds the list
   module _ (flash : new.flash ≡ old.flash) (settled : (a : ℕ) → (old.disk a).earlier ≡ [] → ((new.disk a).earlier ≡ []) ⊎ IsDirtyIn s a) where
     held_now : IsHeld v new s
-    held_now = record {
-      holds = holds_over v.cache old new s flash shows.shape is.holds;
-      agrees = agrees_now;
-      settled = λ a. elim (is.settled a) [ inl none ↦ settled a none | inr dirty ↦ inr dirty ];
-      suits = is.suits;
-      undo = is.undo;
-    }
+    held_now = held_at_write v new s (holds_over v.cache old new s flash shows.shape is.holds) agrees_now
+        (λ a. elim (is.settled a) [ inl none ↦ settled a none | inr dirty ↦ inr dirty ]) is.suits is.may_undo
 
     pub left_up : IsLeft v new
     left_up = held_left v new s own held_now shape_now

@@ -31,7 +31,7 @@ use Rattle.ft_volume.specs.Standing.{StandFor}
 use Rattle.ft_volume.specs.Volume as volume
 use Rattle.cache_model.specs.Records.{Entries}
 use Rattle.cache_model.specs.Entries.{IsMap, each_once}
-use Rattle.cache_model.specs.Cache.{Buffered, IsFull, Vanish, undo, written_block, written_dirty}
+use Rattle.cache_model.specs.Cache.{IsFull, Vanish, undo, written_block, written_dirty}
 use Rattle.cache_model.specs.CacheList.{Agrees, CacheList, Held}
 use Rattle.cache_model.specs.Stands.{FlashStandsFor}
 use Rattle.cache_model.proofs.CountLemmas.{same_number}
@@ -39,24 +39,25 @@ use Rattle.merge_engine.proofs.TakeLemmas.{agree_map}
 use Rattle.op_log.specs.Log.{FitsOn}
 use Rattle.dirty_table.specs.Groups.{Groups, groups_in_order, has, oldest_of, touched, without_first}
 use Rattle.ssc.specs.declared.cache.Ssc.{Ssc}
-use Rattle.ssc.specs.CacheState.{Holds, entries_of, geometry_of, pending}
+use Rattle.ssc.specs.CacheState.{Holds, HoldsBeside, entries_of, geometry_of, pending}
 use Rattle.ssc.specs.declared.error.SscError.{SscError}
 use Rattle.ssc.specs.declared.error.SscError.TheVariants.{Full, OutOfMemory}
 use Rattle.ssc.specs.Commands.{FullExactly, HoldsWritten, ImagesOfWrite, FlashStandsForWrite, AsUndone, AsLeft, AsWritten}
 use Rattle.ssc.specs.Errors.{stops}
 use Rattle.cached_disk.specs.declared.disk.CachedDisk.{CachedDisk}
-use Rattle.cached_disk.specs.Kept.{IsBeneath, IsDirtyIn, IsHeld, MayUndo, dirty_of, is_down, told_of, waiting_in, AsksNoDisk, WritesDisk}
+use Rattle.cached_disk.specs.Kept.{IsBeneath, IsDirtyIn, IsHeld, dirty_of, is_down, told_of, waiting_in, AsksNoDisk, WritesDisk}
 use Rattle.cached_disk.specs.Kept as kept
 use Rattle.cached_disk.proofs.AddressLemmas.{holds_held, holds_lbas, holds_within, lbas_ascending, lbas_dirty, lbas_in, lbas_with, written_held}
 use Rattle.cached_disk.proofs.CallLemmas.{answered_write, gives_up, refused_same, refused_write}
 use Rattle.cached_disk.proofs.DiskLemmas.{IsOver, over_stands}
-use Rattle.cached_disk.proofs.HeldLemmas.{Stays, down_left, drove, held_beneath, held_left, held_over, held_stands, own_flash, step_beneath, step_held, step_over, stopped_down, undone, undone_over}
+use Rattle.cached_disk.proofs.HeldLemmas.{Stays, down_left, drove, held_agrees, held_beneath, held_left, held_over, held_stands, own_flash, step_beneath, step_held, step_over, stopped_down, undone, undone_over}
 use Rattle.cached_disk.proofs.StepLemmas.{over_same, vanish_agrees, vanish_dirty, vanish_same, vanish_was, written_agrees, written_dirty-keeps, written_here, written_over, written_was}
 use Rattle.write_back.specs.declared.volume.WriteBack.{WriteBack}
 use Rattle.write_back.specs.Left.{IsExact, IsLeft, IsDirtyTable, out_of_group, state_of}
 use Rattle.write_back.specs.Writing.{HasTableRoom, backs_made, flushes_made, room_made}
 use Rattle.write_back.proofs.TableLemmas.{map_twice, exact_touched, exact_without, few_exact, few_lbas, full_waiting, length_waiting, not_full_exact, put_waiting, touched_apart, without_apart}
-use Rattle.cached_disk.proofs.ReadLemmas.{on_ok_of}
+use Rattle.cached_disk.proofs.ReadLemmas.{may_none, on_ok_of}
+use Rattle.cached_disk.proofs.ReadLemmas as reads
 
 -- ---- lists of groups
 
@@ -179,9 +180,6 @@ cleaned_left v disk table before after n left up now made cleaned less = record 
 suits_back : (mode : Mode) → mode ≡ Back → (s : CacheList) → Suits mode s
 suits_back mode back s = subst (λ (m : Mode). Suits m s) (sym back) tt
 
-may_back : (mode : Mode) → mode ≡ Back → (q : List Buffered) → MayUndo mode q
-may_back mode back q = subst (λ (m : Mode). MayUndo m q) (sym back) tt
-
 module _ (v : CachedDisk) (old : Contents) (s : CacheList) (own : geometry_of v.cache ≡ v.options.geometry) (is : IsHeld v old s) where
   -- the flash that a crash leaves: it stands for a list that shows the same blocks as the held list
   pub record ShowsHeld (page : Place → Page) : Type 0 where
@@ -204,10 +202,10 @@ module _ (v : CachedDisk) (old : Contents) (s : CacheList) (own : geometry_of v.
       own_vanish = subst (λ (g : Geometry). Vanish g s lba w) own vanish
 
       gave_over : (d : PlainDisk) → IsOver v.options.geometry s old.disk d → IsOver v.options.geometry w old.disk d
-      gave_over d over = over_same v.options.geometry old.disk s w d (vanish_same v.options.geometry s w lba own_vanish old.disk is.agrees) over
+      gave_over d over = over_same v.options.geometry old.disk s w d (vanish_same v.options.geometry s w lba own_vanish old.disk (held_agrees v old s is)) over
 
       gave_agrees : Agrees w old.disk
-      gave_agrees = vanish_agrees v.options.geometry s w lba own_vanish old.disk is.agrees
+      gave_agrees = vanish_agrees v.options.geometry s w lba own_vanish old.disk (held_agrees v old s is)
 
       shows_left : (page : Place → Page) → FlashStandsFor (geometry_of v.cache) page w → ShowsHeld page
       shows_left page stands = record { list = w; stands = own_flash v own page w stands; agrees = gave_agrees; over = gave_over }
@@ -228,8 +226,8 @@ module _ (v : CachedDisk) (old : Contents) (s : CacheList) (own : geometry_of v.
       }
 
     -- whenever it was cut
-    write_shows : (page : Place → Page) → FlashStandsForWrite (geometry_of v.cache) page (undo (pending v.cache) s) s lba (written_dirty lba block) → ShowsHeld page ⊎ ((t : CacheList) × FlashStandsFor v.options.geometry page t × HasBlock t)
-    write_shows page (AsUndone x) = inl (record { list = undone v old s own is; stands = own_flash v own page (undo (pending v.cache) s) x; agrees = (held_beneath v old s own is).agrees; over = undone_over v old s own is })
+    write_shows : (page : Place → Page) → FlashStandsForWrite (geometry_of v.cache) page (undo is.holds.waiting s) s lba (written_dirty lba block) → ShowsHeld page ⊎ ((t : CacheList) × FlashStandsFor v.options.geometry page t × HasBlock t)
+    write_shows page (AsUndone x) = inl (record { list = undone v old s own is; stands = own_flash v own page (undo is.holds.waiting s) x; agrees = (held_beneath v old s own is).agrees; over = undone_over v old s own is })
     write_shows page (AsLeft w vanish x) = inl (shows_left w vanish page x)
     write_shows page (AsWritten w vanish x) = inr (after w vanish, own_flash v own page (after w vanish) x, has_block w vanish)
 
@@ -239,7 +237,7 @@ module _ (v : CachedDisk) (old new : Contents) (s : CacheList) (own : geometry_o
   with_cache = record v { cache = c }
 
   -- the write was done
-  module _ (h : HoldsWritten c new s lba (written_dirty lba block)) where
+  module _ (h : HoldsWritten c new s lba (written_dirty lba block)) (none : pending c ≡ []) where
     vanish_now : Vanish (geometry_of v.cache) s lba h.left
     vanish_now = subst (λ (g : Geometry). Vanish g s lba h.left) geometry h.vanish
 
@@ -247,7 +245,7 @@ module _ (v : CachedDisk) (old new : Contents) (s : CacheList) (own : geometry_o
     own_list = has_block v old s own is lba block h.left vanish_now
 
     held_now : IsHeld with_cache new (written_dirty lba block h.left)
-    held_now = step_held v c old new stays s (written_dirty lba block h.left) own_list.agrees (suits_back v.mode back (written_dirty lba block h.left)) is h.holds own_list.keeps (may_back v.mode back (pending c))
+    held_now = step_held v c old new stays s (written_dirty lba block h.left) own_list.agrees (suits_back v.mode back (written_dirty lba block h.left)) is h.holds own_list.keeps (may_none (told_of v) (pending c) none)
 
     write_left : kept.IsLeft with_cache new
     write_left = held_left with_cache new (written_dirty lba block h.left) (geometry ∙ own) held_now shape
@@ -271,7 +269,7 @@ module _ (v : CachedDisk) (old new : Contents) (s : CacheList) (own : geometry_o
         (written_held (told_of v) (Writes lba block) s h.left lba (written_block lba block true) (own_vanish v old s own is lba block h.left vanish_now) refl (λ a is. is)))
 
   -- the write failed or was cut
-  module _ (stands : FlashStandsForWrite (geometry_of v.cache) new.flash.page (undo (pending v.cache) s) s lba (written_dirty lba block)) where
+  module _ (stands : FlashStandsForWrite (geometry_of v.cache) new.flash.page (undo is.holds.waiting s) s lba (written_dirty lba block)) where
     shows : ShowsHeld v old s own is new.flash.page ⊎ ((t : CacheList) × FlashStandsFor v.options.geometry new.flash.page t × HasBlock v old s own is lba block t)
     shows = write_shows v old s own is lba block new.flash.page stands
 
@@ -316,24 +314,24 @@ module _ (v : WriteBack) (lba : ℕ) (c : Ssc) (table : Groups) (noted : table �
     stays : Stays before.contents after.contents
     stays = drove before.contents after.contents was_lost drives.disk drives.crash
 
-    is : IsHeld v.disk before.contents left.disk.held
+    abbrev is : IsHeld v.disk before.contents left.disk.held
     is = is_held v before.contents left up
 
     -- the write was done
-    module _ (h : HoldsWritten c after.contents left.disk.held lba (written_dirty lba block)) where
+    module _ (h : HoldsWritten c after.contents left.disk.held lba (written_dirty lba block)) (none : pending c ≡ []) where
       lbas : dirty_lbas (entries_of c) ≡ with_lba lba (dirty_of v.disk)
-      lbas = write_lbas v.disk before.contents after.contents left.disk.held left.disk.own is left.mode lba block c geometry shape stays h
+      lbas = write_lbas v.disk before.contents after.contents left.disk.held left.disk.own is left.mode lba block c geometry shape stays h none
 
       pub put_left : IsLeft written after.contents
       put_left = record {
-        disk = write_left v.disk before.contents after.contents left.disk.held left.disk.own is left.mode lba block c geometry shape stays h;
+        disk = write_left v.disk before.contents after.contents left.disk.held left.disk.own is left.mode lba block c geometry shape stays h none;
         mode = left.mode;
         table = noted_table left.table;
         exact = λ still. noted_exact (left.exact up) lbas;
       }
 
       pub put_was : (d : PlainDisk) → StandFor (ImageIs (told_of v.disk)) before.contents d → WasDone {T = Unit {0}} ImageIs (Writes lba block) (state_of v) (state_of written) after.contents (Ok tt) d
-      put_was d stand = answered_write lba block (state_of v) (state_of written) after.contents d refl refl (write_stands v.disk before.contents after.contents left.disk.held left.disk.own is left.mode lba block c geometry shape stays h d stand)
+      put_was d stand = answered_write lba block (state_of v) (state_of written) after.contents d refl refl (write_stands v.disk before.contents after.contents left.disk.held left.disk.own is left.mode lba block c geometry shape stays h none d stand)
 
       pub put_table : (state_of written).table ≡ put_first (lba / v.disk.options.geometry.p) lba (state_of v).table
       put_table =
@@ -343,11 +341,11 @@ module _ (v : WriteBack) (lba : ℕ) (c : Ssc) (table : Groups) (noted : table �
           ∙ ap (λ (l : List ℕ). put_first (lba / v.disk.options.geometry.p) lba (waiting_in v.disk.options.geometry.p v.dirty.order l)) (sym (listed v before.contents left up))
 
       pub put_holds : volume.HoldsAfter (told_of v.disk) (Writes lba block) (state_of v).held (state_of written).held
-      put_holds = write_holds v.disk before.contents after.contents left.disk.held left.disk.own is left.mode lba block c geometry shape stays h
+      put_holds = write_holds v.disk before.contents after.contents left.disk.held left.disk.own is left.mode lba block c geometry shape stays h none
 
     -- the write failed or was cut, so the volume is down
-    module _ (images : ImagesOfWrite v.disk.cache after.contents left.disk.held lba (written_dirty lba block)) (down : is_down written.disk ≡ true) where
-      stands : FlashStandsForWrite (geometry_of v.disk.cache) after.contents.flash.page (undo (pending v.disk.cache) left.disk.held) left.disk.held lba (written_dirty lba block)
+    module _ (images : ImagesOfWrite v.disk.cache after.contents (undo is.holds.waiting left.disk.held) left.disk.held lba (written_dirty lba block)) (down : is_down written.disk ≡ true) where
+      stands : FlashStandsForWrite (geometry_of v.disk.cache) after.contents.flash.page (undo is.holds.waiting left.disk.held) left.disk.held lba (written_dirty lba block)
       stands = images (with_newest after.contents) (newest_image after.contents)
 
       pub refused_left : IsLeft written after.contents
@@ -373,18 +371,9 @@ module _ (v : WriteBack) (k : Ssc) (entries : entries_of k ≡ entries_of v.disk
   pub reserved_up : is_down reserved.disk ≡ is_down v.disk
   reserved_up = ap (λ b. v.disk.down || b) stopped
 
-  pub reserved_left : (contents : Contents) → IsLeft v contents → ((s : CacheList) → Holds v.disk.cache contents s → Holds k contents s) → geometry_of k ≡ geometry_of v.disk.cache → pending k ≡ pending v.disk.cache → IsLeft reserved contents
+  pub reserved_left : (contents : Contents) → IsLeft v contents → ((c : Contents) (s : CacheList) (h : Holds v.disk.cache c s) → HoldsBeside k c s h.waiting) → geometry_of k ≡ geometry_of v.disk.cache → pending k ≡ pending v.disk.cache → IsLeft reserved contents
   reserved_left contents left holds geometry waits = record {
-    disk = record {
-      own = geometry ∙ left.disk.own;
-      shape = left.disk.shape;
-      list = left.disk.list;
-      beneath = left.disk.beneath;
-      held = left.disk.held;
-      up = λ up.
-          let is = left.disk.up (sym reserved_up ∙ up) in
-          record { holds = holds left.disk.held is.holds; agrees = is.agrees; settled = is.settled; suits = is.suits; undo = subst (λ (q : List Buffered). MayUndo v.disk.mode q) (sym waits) is.undo };
-    };
+    disk = reads.reserved_left v.disk k (record { geometry = geometry; holds = holds; pending = waits; stopped = stopped }) contents contents refl left.disk;
     mode = left.mode;
     table = left.table;
     exact = λ up. subst (λ (m : Entries). IsExact v.disk.options.geometry.p v.dirty.order (dirty_lbas m)) (sym entries) (left.exact (sym reserved_up ∙ up));

@@ -1,12 +1,12 @@
 -- A block is put on the disk, at an address that the cache doesn't hold.
 use Rattle.std.proofs.Common.{◌≡◌, ◌⊎◌, ℕ, ◌<◌, true, false, List, [], Option, Some, None, Err, inl, inr, refl, sym, ◌∙◌, ap, subst}
 use Rattle.std.specs.FinMap.{get}
+use Rattle.std.specs.List.{list_any}
 use Rattle.std.specs.Option.{is_some}
 use Rattle.std.proofs.lemmas.Bool.{cases_eq, false≢true}
 use Rattle.ft_base.specs.declared.block.Block.{Block}
 use Rattle.ft_base.specs.declared.block.Place.{Place}
 use Rattle.ft_base.specs.declared.block.Page.{Page}
-use Rattle.ft_base.specs.declared.record.Record.{Record}
 use Rattle.ft_base.specs.Contents.{Contents, HasValue, Image, Now, Shape, Values, flushed, set, written}
 use Rattle.ft_base.specs.PlainDisk.{PlainDisk}
 use Rattle.ft_base.specs.Told.{Told}
@@ -17,20 +17,20 @@ use Rattle.ft_volume.specs.Volume.{StandForEither, StandForOne, VolumeState, Was
 use Rattle.ft_volume.specs.Standing.{StandFor}
 use Rattle.ft_volume.specs.declared.volume.VolumeError.TheVariants.{DiskFault, PowerLost}
 use Rattle.ft_volume.proofs.DoneLemmas.{done_of_one}
-use Rattle.cache_model.specs.Cache.{undo}
+use Rattle.cache_model.specs.Cache.{Buffered, is_write, undo}
 use Rattle.cache_model.specs.CacheList.{Agrees, CacheList, Held, held_or}
 use Rattle.cache_model.specs.Stands.{FlashStandsFor}
 use Rattle.cache_model.proofs.UndoLemmas.{get_undo, undone_at}
 use Rattle.op_log.specs.Log.{FitsOn}
 use Rattle.ssc.specs.declared.cache.Ssc.{Ssc}
-use Rattle.ssc.specs.CacheState.{Holds, entries_of, waiting}
-use Rattle.ssc.proofs.HoldsLemmas.{none_written, undone_none}
+use Rattle.ssc.specs.CacheState.{Holds, entries_of}
+use Rattle.ssc.proofs.HoldsLemmas.{undone_none}
 use Rattle.cached_disk.specs.declared.disk.CachedDisk.{CachedDisk}
 use Rattle.cached_disk.specs.Kept.{IsBeneath, IsHeld, IsLeft, is_down, told_of}
 use Rattle.cached_disk.proofs.AddressLemmas.{holds_held}
 use Rattle.cached_disk.proofs.DiskLemmas.{IsOver, one_value}
 use Rattle.cached_disk.proofs.ReadLemmas.{not_some}
-use Rattle.cached_disk.proofs.HeldLemmas.{down_left, held_beneath, held_left, held_over, holds_over, undone, undone_over}
+use Rattle.cached_disk.proofs.HeldLemmas.{down_left, held_agrees, held_at_write, held_beneath, held_left, held_over, holds_over, none_later, undone, undone_over}
 
 -- each value is one that the disk had, or the block
 abbrev pub IsOldOr : Contents → Contents → ℕ → Block → Type 0
@@ -50,8 +50,8 @@ pub absent_of : (c : Ssc) (contents : Contents) (s : CacheList) → Holds c cont
 absent_of c contents s holds a is = not_some (get s a) (sym (holds_held c contents s holds a) ∙ is)
 
 -- the address isn't held without the buffered changes either
-undone_absent : (changes : List Record) (s : CacheList) (a : ℕ) → get s a ≡ None → get (undo (waiting changes) s) a ≡ None
-undone_absent changes s a none = get_undo (waiting changes) s a ∙ ap (undone_at (waiting changes) a) none ∙ undone_none (waiting changes) a (none_written changes)
+undone_absent : (q : List Buffered) (s : CacheList) (a : ℕ) → list_any is_write q ≡ false → get s a ≡ None → get (undo q s) a ≡ None
+undone_absent q s a no_write none = get_undo q s a ∙ ap (undone_at q a) none ∙ undone_none q a no_write
 
 -- ---- over a list that lacks the address
 
@@ -151,20 +151,17 @@ module _ (v : CachedDisk) (old new : Contents) (left : IsLeft v old) (up : is_do
   fits = subst (λ (x : Shape). FitsOn v.options.geometry x) (sym shape) left.shape
 
   pub put_left : new.flash ≡ old.flash → IsPut old new lba block → IsLeft v new
-  put_left flash put = held_left v new left.held left.own (record {
-    holds = holds_over v.cache old new left.held flash shape is.holds;
-    agrees = agrees_now lba block old new values left.held absent is.agrees;
-    settled = λ a. inl (ap (λ (x : Values). x.earlier) (put a));
-    suits = is.suits;
-    undo = is.undo;
-  }) fits
+  put_left flash put = held_left v new left.held left.own
+      (held_at_write v new left.held (holds_over v.cache old new left.held flash shape is.holds)
+      (agrees_now lba block old new values left.held absent (held_agrees v old left.held is))
+      (λ a. inl (ap (λ (x : Values). x.earlier) (put a))) is.suits is.may_undo) fits
 
   module _ (page : new.flash.page ≡ old.flash.page) where
     abbrev beneath_list : CacheList
     beneath_list = undone v old left.held left.own is
 
     beneath_absent : get beneath_list lba ≡ None
-    beneath_absent = undone_absent v.cache.parts.log.buffered left.held lba absent
+    beneath_absent = undone_absent is.holds.waiting left.held lba (none_later v is.may_undo old left.held is.holds).1 absent
 
     beneath_old : IsBeneath (told_of v) old beneath_list
     beneath_old = held_beneath v old left.held left.own is

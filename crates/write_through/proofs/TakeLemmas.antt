@@ -19,9 +19,9 @@ use Rattle.ssc.specs.declared.cache.Ssc.{Ssc}
 use Rattle.ssc.specs.CacheState.{Holds, entries_of, geometry_of, pending}
 use Rattle.ssc.specs.Commands.{IsHeldIn, FlashStandsForOne, AsUndone, AsBefore, AsAfter}
 use Rattle.cached_disk.specs.declared.disk.CachedDisk.{CachedDisk}
-use Rattle.cached_disk.specs.Kept.{IsDirtyIn, IsHeld, MayUndo}
+use Rattle.cached_disk.specs.Kept.{IsDirtyIn, IsHeld, MayUndo, told_of}
 use Rattle.cached_disk.proofs.AddressLemmas.{holds_held}
-use Rattle.cached_disk.proofs.HeldLemmas.{suits_less}
+use Rattle.cached_disk.proofs.HeldLemmas.{held_agrees, suits_less}
 use Rattle.cached_disk.proofs.ReadLemmas.{IsShown, ShowsSame, commit_shows, may_none}
 use Rattle.cached_disk.proofs.StepLemmas.{IsSameOver, not_dirty_beneath, over_same}
 
@@ -66,24 +66,24 @@ module _ (v : CachedDisk) (contents : Contents) (s : CacheList) (own : geometry_
   module _ (lba : ℕ) where
     pub evicted_shows : ShowsSame v contents s (evicted lba s)
     evicted_shows = record {
-      agrees = λ a h b at clean has. is.agrees a h b (evicted_was s lba a h at) clean has;
+      agrees = λ a h b at clean has. held_agrees v contents s is a h b (evicted_was s lba a h at) clean has;
       suits = suits_less v.mode s (evicted lba s) is.suits (λ a h at. inr (evicted_was s lba a h at));
-      over = λ d over. over_same v.options.geometry contents.disk s (evicted lba s) d (evicted_same s lba contents.disk is.agrees (none_dirty lba)) over;
+      over = λ d over. over_same v.options.geometry contents.disk s (evicted lba s) d (evicted_same s lba contents.disk (held_agrees v contents s is) (none_dirty lba)) over;
     }
 
     pub evicted_keeps : (a : ℕ) → IsDirtyIn s a → IsDirtyIn (evicted lba s) a
     evicted_keeps a dirty = absurd (none_dirty a dirty)
 
     -- whenever it was cut
-    pub evict_shows : (page : Place → Page) → FlashStandsForOne (geometry_of v.cache) page (undo (pending v.cache) s) s (evicted lba s) → IsShown v contents s page
+    pub evict_shows : (page : Place → Page) → FlashStandsForOne (geometry_of v.cache) page (undo is.holds.waiting s) s (evicted lba s) → IsShown v contents s page
     evict_shows page (AsUndone x) = commit_shows v contents s own is page (AsUndone x)
     evict_shows page (AsBefore x) = commit_shows v contents s own is page (AsBefore x)
     evict_shows page (AsAfter x) = record { list = evicted lba s; stands = subst (λ (g : Geometry). FlashStandsFor g page (evicted lba s)) own x; shows = evicted_shows }
 
     -- nothing is buffered after that, or the old changes are
-    pub evicted_may : (c : Ssc) → (IsHeldIn s lba → pending c ≡ []) → (get s lba ≡ None → c ≡ v.cache) → MayUndo v.mode (pending c)
+    pub evicted_may : (c : Ssc) → (IsHeldIn s lba → pending c ≡ []) → (get s lba ≡ None → c ≡ v.cache) → MayUndo (told_of v) (pending c)
     evicted_may c nothing same = by (get s lba) refl
       where
-        by : (o : Option Held) → get s lba ≡ o → MayUndo v.mode (pending c)
-        by None at = subst (λ (k : Ssc). MayUndo v.mode (pending k)) (sym (same at)) is.undo
-        by (Some h) at = may_none v.mode (pending c) (nothing (h, at))
+        by : (o : Option Held) → get s lba ≡ o → MayUndo (told_of v) (pending c)
+        by None at = subst (λ (k : Ssc). MayUndo (told_of v) (pending k)) (sym (same at)) is.may_undo
+        by (Some h) at = may_none (told_of v) (pending c) (nothing (h, at))

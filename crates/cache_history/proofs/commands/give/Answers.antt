@@ -1,9 +1,11 @@
-use Rattle.std.proofs.Common.{◌≡◌, ap}
-use Rattle.cache_model.specs.Cache.{written_dirty, written_clean, evicted, made_clean}
+use Rattle.std.proofs.Common.{◌≡◌, ap, inl, inr}
+use Rattle.std.specs.FinMap.{get}
+use Rattle.ft_media.specs.State.{State}
+use Rattle.cache_model.specs.Cache.{Written, written_dirty, written_clean, evicted, made_clean}
 use Rattle.ssc.specs.CacheState.{geometry_of}
 use Rattle.cache_history.specs.History.{is_write}
 use Rattle.cache_history.specs.declared.kind.Kind.TheVariants as kinds
-use Rattle.cache_history.proofs.CommandLemmas.{write_dirty_answer, write_clean_answer, evict_answer, clean_answer, commit_answer, checkpoint_answer, up_after, up_written, left_of, left_of_write, full_of}
+use Rattle.cache_history.proofs.CommandLemmas.{write_dirty_answer, write_later_answer, write_clean_answer, evict_answer, clean_answer, commit_answer, checkpoint_answer, up_after, up_later, up_written, left_of, left_of_write, full_of}
 use Rattle.cache_history.proofs.RefusedLemmas.{still_of, unchanged_of}
 use Rattle.cache_history.proofs.commands.give.Goals as goal
 
@@ -20,6 +22,18 @@ returns-in-WriteDirty-clause-is_up g c = up_written c.args.cache.now c.write_dir
     (g.M.Media.state c.write_dirty.new.media).contents c.args.kind c.args.lba c.args.block.now c.write_dirty.result (written_dirty c.args.lba c.args.block.now)
     c.write_dirty.ensures.done c.write_dirty.ensures.runs.stopped c.requires.up
 
+pub returns-in-WriteLater-clause-answered : goal.returns-in-WriteLater-clause-answered
+returns-in-WriteLater-clause-answered g c = write_later_answer c.args.cache.now c.write_later.new.self (g.M.Media.state c.args.media.now).contents
+    (g.M.Media.state c.write_later.new.media).contents c.args.kind c.args.lba c.args.block.now c.write_later.result c.in-WriteLater.is c.write_later.ensures.runs.geometry c.write_later.ensures.done
+
+pub returns-in-WriteLater-clause-images : goal.returns-in-WriteLater-clause-images
+returns-in-WriteLater-clause-images g c = left_of_write c.args.cache.now (g.M.Media.state c.args.media.now).contents (g.M.Media.state c.write_later.new.media).contents kinds.WriteLater c.args.lba c.args.block.now (λ s v van. van) c.write_later.ensures.images c.args.kind c.in-WriteLater.is
+
+pub returns-in-WriteLater-clause-is_up : goal.returns-in-WriteLater-clause-is_up
+returns-in-WriteLater-clause-is_up g c = up_later c.args.cache.now c.write_later.new.self (g.M.Media.state c.args.media.now).contents
+    (g.M.Media.state c.write_later.new.media).contents c.args.kind c.args.lba c.args.block.now c.write_later.result (written_dirty c.args.lba c.args.block.now) (λ v. Written c.args.lba (get v c.args.lba))
+    c.write_later.ensures.done c.write_later.ensures.runs.stopped c.requires.up
+
 pub returns-in-WriteClean-clause-answered : goal.returns-in-WriteClean-clause-answered
 returns-in-WriteClean-clause-answered g c = write_clean_answer c.args.cache.now c.write_clean.new.self (g.M.Media.state c.args.media.now).contents
     (g.M.Media.state c.write_clean.new.media).contents c.args.kind c.args.lba c.args.block.now c.write_clean.result c.in-WriteClean.is c.write_clean.ensures.runs.geometry c.write_clean.ensures.done
@@ -35,7 +49,7 @@ returns-in-WriteClean-clause-is_up g c = up_written c.args.cache.now c.write_cle
 
 pub returns-in-Evict-clause-answered : goal.returns-in-Evict-clause-answered
 returns-in-Evict-clause-answered g c = evict_answer c.args.cache.now c.evict.new.self (g.M.Media.state c.args.media.now).contents
-    (g.M.Media.state c.evict.new.media).contents c.args.kind c.args.lba c.args.block.now c.evict.result (g.M.Media.state c.evict.new.media ≡ g.M.Media.state c.args.media.now)
+    (g.M.Media.state c.evict.new.media).contents c.args.kind c.args.lba c.args.block.now c.evict.result (g.M.Media.state c.evict.new.media ≡ g.M.Media.state c.args.media.now) (λ e. ap (λ (x : State). x.contents) e)
     c.in-Evict.is c.evict.ensures.done c.evict.ensures.held c.evict.ensures.absent
 
 pub returns-in-Evict-clause-images : goal.returns-in-Evict-clause-images
@@ -47,8 +61,8 @@ returns-in-Evict-clause-is_up g c = up_after c.args.cache.now c.evict.new.self (
 
 pub returns-in-Clean-clause-answered : goal.returns-in-Clean-clause-answered
 returns-in-Clean-clause-answered g c = clean_answer c.args.cache.now c.clean.new.self (g.M.Media.state c.args.media.now).contents
-    (g.M.Media.state c.clean.new.media).contents c.args.kind c.args.lba c.args.block.now c.clean.result (g.M.Media.state c.clean.new.media ≡ g.M.Media.state c.args.media.now)
-    c.in-Clean.is c.clean.ensures.done c.clean.ensures.of_dirty c.clean.ensures.of_other
+    (g.M.Media.state c.clean.new.media).contents c.args.kind c.args.lba c.args.block.now c.clean.result (g.M.Media.state c.clean.new.media ≡ g.M.Media.state c.args.media.now) (λ e. ap (λ (x : State). x.contents) e)
+    c.in-Clean.is c.clean.ensures.of_dirty c.clean.ensures.of_other
 
 pub returns-in-Clean-clause-images : goal.returns-in-Clean-clause-images
 returns-in-Clean-clause-images g c = left_of c.args.cache.now (g.M.Media.state c.args.media.now).contents (g.M.Media.state c.clean.new.media).contents kinds.Clean c.args.lba c.args.block.now c.clean.ensures.images c.args.kind c.in-Clean.is
@@ -86,8 +100,19 @@ returns-in-WriteDirty-clause-no_event g c =
       still = still_of c.args.cache.now c.write_dirty.new.self (g.M.Media.state c.args.media.now) (g.M.Media.state c.write_dirty.new.media)
           c.write_dirty.result c.write_dirty.ensures.refused.full_keeps (λ is. let none = c.write_dirty.ensures.refused.memory is in (none.1, none.2)) c.write_dirty.ensures.refused.memory_holds;
       full_keeps = λ n k is. (c.write_dirty.ensures.refused.full_keeps n k is).0;
-      full = λ n k e. (c.in-WriteDirty.is, λ s holds. full_of c.write_dirty.result (geometry_of c.args.cache.now) s c.args.lba n k (c.write_dirty.ensures.full s holds) e);
+      full = λ n k e. (inl c.in-WriteDirty.is, λ s holds. full_of c.write_dirty.result (geometry_of c.args.cache.now) s c.args.lba n k (c.write_dirty.ensures.full s holds) e);
       memory = λ e. (ap is_write c.in-WriteDirty.is, (c.write_dirty.ensures.refused.memory e).0);
+    }
+
+pub returns-in-WriteLater-clause-no_event : goal.returns-in-WriteLater-clause-no_event
+returns-in-WriteLater-clause-no_event g c =
+    record {
+      unchanged = unchanged_of c.args.cache.now c.write_later.new.self (g.M.Media.state c.args.media.now) (g.M.Media.state c.write_later.new.media) c.write_later.result c.write_later.ensures.refused.full_keeps (λ is. let none = c.write_later.ensures.refused.memory is in (none.1, none.2));
+      still = still_of c.args.cache.now c.write_later.new.self (g.M.Media.state c.args.media.now) (g.M.Media.state c.write_later.new.media)
+          c.write_later.result c.write_later.ensures.refused.full_keeps (λ is. let none = c.write_later.ensures.refused.memory is in (none.1, none.2)) c.write_later.ensures.refused.memory_holds;
+      full_keeps = λ n k is. (c.write_later.ensures.refused.full_keeps n k is).0;
+      full = λ n k e. (inr c.in-WriteLater.is, λ s holds. full_of c.write_later.result (geometry_of c.args.cache.now) s c.args.lba n k (c.write_later.ensures.full s holds) e);
+      memory = λ e. (ap is_write c.in-WriteLater.is, (c.write_later.ensures.refused.memory e).0);
     }
 
 pub returns-in-WriteClean-clause-no_event : goal.returns-in-WriteClean-clause-no_event

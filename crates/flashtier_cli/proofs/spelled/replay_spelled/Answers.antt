@@ -1,2 +1,0 @@
-use Rattle.std.proofs.Common.{subst, sym}
-use Rattle.flashtier_cli.proofs.spelled.replay_spelled.Goals as goal

@@ -3,8 +3,8 @@ use Rattle.ft_base.specs.declared.block.Page.TheVariants as content
 use Rattle.ft_base.specs.Contents.{Contents}
 use Rattle.ft_media.specs.Reads.{ReadsFlash}
 use Rattle.ft_media.proofs.DrivesLemmas.{reads_none, reads_then}
-use Rattle.parity_media.specs.Xor.{zero_spare, pages_of, xor_whole, is_whole, JoinsBut}
-use Rattle.parity_media.proofs.XorLemmas.{full_is_whole, but_none, but_skip, but_join, parity_whole, but_back}
+use Rattle.parity_media.specs.Xor.{zero_spare, pages_of, xor_whole, JoinsBut}
+use Rattle.parity_media.proofs.XorLemmas.{but_none, but_skip, but_join, but_back}
 use Rattle.parity_media.proofs.rebuild.rebuild.Goals as goal
 use Rattle.parity_media.proofs.rebuild.rebuild.Goals.{then-page-at+in_ok-join_page, else-page-at}
 

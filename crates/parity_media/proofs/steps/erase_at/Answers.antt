@@ -1,5 +1,3 @@
-use Rattle.std.proofs.Common.{ap}
-use Rattle.ft_media.specs.Media.{Crashed}
 use Rattle.parity_media.specs.Kept.{parity_pages, parity_of, new_parity}
 use Rattle.parity_media.proofs.KeptLemmas.{one_here, one_else}
 use Rattle.parity_media.proofs.WritesLemmas.{writes_erase}

@@ -17,4 +17,4 @@ fit_reserved going c d contents fit same stopped holds = record {
 }
 
 pub invariant_of-self : goal.invariant_of-self
-invariant_of-self c = fit_reserved c.self.inside.going c.self.inside.cache c.reserve.new.self (state_of c.self.inside.rig).contents c.self.invariant c.reserve.ensures.same c.reserve.ensures.stopped c.reserve.ensures.holds
+invariant_of-self c = fit_reserved c.self.inside.going c.self.inside.cache c.reserve.new.self (state_of c.self.inside.rig).contents c.self.invariant c.reserve.ensures.same c.reserve.ensures.stopped (λ k s h. (c.reserve.ensures.holds k s h).holds)

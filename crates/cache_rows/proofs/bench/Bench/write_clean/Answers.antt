@@ -15,4 +15,4 @@ invariant_of-self c =
     let e = c.write_clean-answer.ensures in
     fit_written c.write_clean-answer.result c.self.inside.going c.is_stopped.result c.self.inside.cache c.write_clean-answer.new.self (state_of c.self.inside.rig) (state_of c.write_clean-answer.new.media)
     c.args.lba (written_clean c.args.lba c.block_of-block.result) c.self.invariant (c.self.view_is ∙ c.requires.going) c.is_stopped.ensures
-    e.runs.geometry e.runs.stopped e.done (λ n l is. absurd (e.full n l is)) (λ is. ((e.refused.memory is).2, e.refused.memory_holds is))
+    e.runs.geometry e.runs.stopped e.done (λ n l is. absurd (e.full n l is)) (λ is. ((e.refused.memory is).2, λ contents s h. (e.refused.memory_holds is contents s h).holds))

@@ -15,4 +15,4 @@ invariant_of-self c =
     let e = c.write_dirty-answer.ensures in
     fit_written c.write_dirty-answer.result c.self.inside.going c.is_stopped.result c.self.inside.cache c.write_dirty-answer.new.self (state_of c.self.inside.rig) (state_of c.write_dirty-answer.new.media)
     c.args.lba (written_dirty c.args.lba c.block_of-block.result) c.self.invariant (c.self.view_is ∙ c.requires.going) c.is_stopped.ensures
-    e.runs.geometry e.runs.stopped e.done e.refused.full_keeps (λ is. ((e.refused.memory is).2, e.refused.memory_holds is))
+    e.runs.geometry e.runs.stopped e.done e.refused.full_keeps (λ is. ((e.refused.memory is).2, λ contents s h. (e.refused.memory_holds is contents s h).holds))

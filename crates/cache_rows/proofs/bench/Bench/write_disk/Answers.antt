@@ -15,11 +15,14 @@ holds_beside c a b s k =
         sound = record { of_one = sound.of_one; shape = sound.shape; current = sound.current; whole = sound.whole; roles = sound.roles; log_blocks = sound.log_blocks; open_block = sound.open_block };
         open_log = k.agree.open_log;
       };
-      lists = k.lists;
+      waiting = k.waiting;
+      shapes = k.shapes;
       kinds = k.kinds;
+      lists = k.lists;
       waits = k.waits;
       memory = k.memory;
       few = k.few;
+      places = k.places;
     }
 
 -- the cache depends only on the flash

@@ -50,9 +50,9 @@ returns-in-Ok-clause-serves g c =
     let by = drove_held v c.checkpoint.new.self (g.M.Media.state c.args.media.now) (g.M.Media.state c.checkpoint.new.media) (ssc_failed c.checkpoint.result) (ssc_lost c.checkpoint.result) c.requires.may.left c.requires.may.up c.checkpoint.ensures.runs.geometry c.checkpoint.ensures.runs.drives in
     let w : CachedDisk = record v { cache = c.checkpoint.new.self } in
     record {
-      left = done_left v c.checkpoint.new.self old new s by s (shows_itself v old s is) (c.in-Ok.ensures.done s is.holds) (λ a dirty. dirty) (may_none v.mode (pending c.checkpoint.new.self) c.in-Ok.ensures.nothing_waits);
+      left = done_left v c.checkpoint.new.self old new s by s (shows_itself v old s is) (c.in-Ok.ensures.done s is.holds) (λ a dirty. dirty) (may_none (told_of v) (pending c.checkpoint.new.self) c.in-Ok.ensures.nothing_waits);
       was = λ order base stand. answered_same Idles (state_in order v) (state_in order w) new base refl refl
-          (done_stands v c.checkpoint.new.self old new s by s (shows_itself v old s is) (c.in-Ok.ensures.done s is.holds) (λ a dirty. dirty) (may_none v.mode (pending c.checkpoint.new.self) c.in-Ok.ensures.nothing_waits) base stand) Checkpointed refl tt;
+          (done_stands v c.checkpoint.new.self old new s by s (shows_itself v old s is) (c.in-Ok.ensures.done s is.holds) (λ a dirty. dirty) (may_none (told_of v) (pending c.checkpoint.new.self) c.in-Ok.ensures.nothing_waits) base stand) Checkpointed refl tt;
       goes = λ order. goes_driven Checkpointed (g.M.Media.state c.args.media.now) (g.M.Media.state c.checkpoint.new.media) (state_in order v) (state_in order w) refl
           (still_up v c.checkpoint.new.self c.requires.may.up c.in-Ok.ensures.runs.stopped) c.in-Ok.ensures.runs.drives;
       dirty = λ still. done_dirty v c.checkpoint.new.self old new s by s (shows_itself v old s is) (c.in-Ok.ensures.done s is.holds) (λ a dirty. dirty) (λ a dirty. dirty);

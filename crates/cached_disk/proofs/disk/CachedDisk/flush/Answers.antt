@@ -5,7 +5,7 @@ use Rattle.ssc.specs.declared.error.SscError.TheVariants.{OutOfMemory}
 use Rattle.ssc.specs.CacheState.{pending}
 use Rattle.ssc.specs.Errors.{ssc_failed, ssc_lost}
 use Rattle.cached_disk.specs.declared.disk.CachedDisk.{CachedDisk}
-use Rattle.cached_disk.specs.Kept.{state_in, waiting_in}
+use Rattle.cached_disk.specs.Kept.{state_in, waiting_in, told_of}
 use Rattle.cached_disk.proofs.AddressLemmas.{holds_held}
 use Rattle.cached_disk.proofs.CallLemmas.{answered_same, asks_none, gives_up, goes_down, goes_driven, none_up, refused_costs, refused_same, same_costs}
 use Rattle.cached_disk.proofs.HeldLemmas.{is_up, stopped_down}
@@ -25,9 +25,9 @@ returns-in-Ok-clause-serves g c =
     let by = drove_held v c.commit.new.self (g.M.Media.state c.args.media.now) (g.M.Media.state c.commit.new.media) (ssc_failed c.commit.result) (ssc_lost c.commit.result) c.requires.may.left c.requires.may.up c.commit.ensures.runs.geometry c.commit.ensures.runs.drives in
     let w : CachedDisk = record v { cache = c.commit.new.self } in
     record {
-      left = done_left v c.commit.new.self old new s by s (shows_itself v old s is) (c.in-Ok.ensures.done s is.holds) (λ a dirty. dirty) (may_none v.mode (pending c.commit.new.self) c.in-Ok.ensures.nothing_waits);
+      left = done_left v c.commit.new.self old new s by s (shows_itself v old s is) (c.in-Ok.ensures.done s is.holds) (λ a dirty. dirty) (may_none (told_of v) (pending c.commit.new.self) c.in-Ok.ensures.nothing_waits);
       was = λ order base stand. answered_same Flushes (state_in order v) (state_in order w) new base refl refl
-          (done_stands v c.commit.new.self old new s by s (shows_itself v old s is) (c.in-Ok.ensures.done s is.holds) (λ a dirty. dirty) (may_none v.mode (pending c.commit.new.self) c.in-Ok.ensures.nothing_waits) base stand) tt refl tt;
+          (done_stands v c.commit.new.self old new s by s (shows_itself v old s is) (c.in-Ok.ensures.done s is.holds) (λ a dirty. dirty) (may_none (told_of v) (pending c.commit.new.self) c.in-Ok.ensures.nothing_waits) base stand) tt refl tt;
       goes = λ order. goes_driven tt (g.M.Media.state c.args.media.now) (g.M.Media.state c.commit.new.media) (state_in order v) (state_in order w) refl
           (still_up v c.commit.new.self c.requires.may.up c.in-Ok.ensures.runs.stopped) c.in-Ok.ensures.runs.drives;
       dirty = λ still. done_dirty v c.commit.new.self old new s by s (shows_itself v old s is) (c.in-Ok.ensures.done s is.holds) (λ a dirty. dirty) (λ a dirty. dirty);

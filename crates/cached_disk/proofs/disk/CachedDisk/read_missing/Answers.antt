@@ -15,6 +15,8 @@ use Rattle.ft_volume.specs.declared.volume.VolumeError.TheVariants as volume
 use Rattle.cache_model.specs.Records.{Entries}
 use Rattle.ssc.specs.CacheState.{entries_of}
 use Rattle.ssc.specs.Errors.{ssc_failed, ssc_lost}
+use Rattle.ssc.proofs.LosingLemmas.{pends_buffered}
+use Rattle.cache_model.specs.Cache.{Inserted, written_clean}
 use Rattle.ssc.specs.declared.error.SscError.TheVariants.{OutOfMemory}
 use Rattle.cached_disk.specs.declared.disk.CachedDisk.{CachedDisk}
 use Rattle.cached_disk.specs.Kept.{state_in, told_of, waiting_in}
@@ -115,9 +117,9 @@ returns-in-Ok-clause-serves g c =
     let h = c.in-Ok.ensures.done s by.is.holds in
     let w : CachedDisk = record v { cache = put } in
     record {
-      left = put_left u put mid.contents after.contents s by c.args.lba c.read_block.new.block absent newest h (c.in-Ok.ensures.at_absent s by.is.holds absent);
+      left = put_left u put mid.contents after.contents s by c.args.lba c.read_block.new.block absent newest h (pends_buffered k put mid.contents after.contents s by.is.holds c.args.lba (written_clean c.args.lba c.read_block.new.block) (Inserted c.args.lba) (c.in-Ok.ensures.at_absent s by.is.holds absent));
       was = λ order base stand. answered_same (Reads c.args.lba c.read_block.new.block) (state_in order v) (state_in order w) after.contents base refl refl
-          (put_stands u put mid.contents after.contents s by c.args.lba c.read_block.new.block absent newest h (c.in-Ok.ensures.at_absent s by.is.holds absent) base (subst (λ (x : Contents). StandFor (ImageIs (told_of v)) x base) (sym c.read_block.ensures.contents) stand)) tt refl
+          (put_stands u put mid.contents after.contents s by c.args.lba c.read_block.new.block absent newest h (pends_buffered k put mid.contents after.contents s by.is.holds c.args.lba (written_clean c.args.lba c.read_block.new.block) (Inserted c.args.lba) (c.in-Ok.ensures.at_absent s by.is.holds absent)) base (subst (λ (x : Contents). StandFor (ImageIs (told_of v)) x base) (sym c.read_block.ensures.contents) stand)) tt refl
           (newest ∙ found_absent u mid.contents s left.own (left.up up) c.args.lba c.requires.lba absent base (subst (λ (x : Contents). StandFor (ImageIs (told_of v)) x base) (sym c.read_block.ensures.contents) stand));
       goes = λ order. goes_after before mid after c.read_block.ensures.contents (c.in_default.ensures.cause.none refl refl) c.in_default.ensures.passes (state_in order v) (state_in order w) (Ok tt)
           (goes_driven tt mid after (state_in order v) (state_in order w) refl (still_up v put c.requires.may.up c.in-Ok.ensures.runs.stopped) c.in-Ok.ensures.runs.drives);

@@ -1,16 +1,24 @@
-use Rattle.std.proofs.Common.{ap, arith}
+use Rattle.std.proofs.Common.{◌∙◌, List, Option, length, sym, ap, arith}
 use Rattle.std.proofs.lemmas.Bool.{false≢true}
 use Rattle.cache_model.specs.Cache.{undo}
 use Rattle.merge_engine.specs.declared.parts.Parts.{Parts}
-use Rattle.ssc.specs.CacheState.{pending, geometry_of, waiting}
-use Rattle.ssc.proofs.HoldsLemmas.{few_logged, holds_committed, memory_logged, waiting-none}
+use Rattle.ssc.specs.CacheState.{geometry_of, waiting}
+use Rattle.ssc.proofs.HoldsLemmas.{few_logged, holds_committed, memory_logged, no_places, waiting-none}
+use Rattle.ssc.proofs.LosingLemmas.{none_losing}
 use Rattle.ssc.proofs.CommandLemmas.{images_before}
 use Rattle.ssc.proofs.OwnLemmas.{given_up_not, kept_step}
 use Rattle.ssc.specs.declared.cache.Ssc.{Ssc}
+use Rattle.ssc.specs.declared.earlier.Before.{Before}
 use Rattle.ssc.proofs.cache.Ssc.commit.Goals as goal
 
 pub returns-in-Ok-clause-nothing : goal.returns-in-Ok-clause-nothing
-returns-in-Ok-clause-nothing g c = λ none. let n = c.in-Ok.ensures.nothing (waiting-none c.args.self.now.parts.log.buffered none) in (n.0, ap (λ (p : Parts). record c.args.self.now { parts = p }) n.1, n.2)
+returns-in-Ok-clause-nothing g c = λ none.
+    let n = c.in-Ok.ensures.nothing (waiting-none c.args.self.now.parts.log.buffered none) in
+    let places = no_places c.args.self.now (g.M.Media.state c.args.media.now).contents c.requires.up.list c.requires.up.holds none in (
+      n.0,
+      ap (λ (p : Parts). record c.args.self.now { parts = p; before = c.clear.new.self }) n.1 ∙ ap (λ (l : List (Option Before)). record c.args.self.now { before = l }) (c.clear.ensures ∙ sym places),
+      n.2,
+    )
 
 pub returns-in-Ok-clause-done : goal.returns-in-Ok-clause-done
 returns-in-Ok-clause-done g c = λ s holds.
@@ -18,14 +26,14 @@ returns-in-Ok-clause-done g c = λ s holds.
       agree = c.in-Ok.ensures.kept.agree;
       memory = λ ready. memory_logged c.args.self.now.parts c.commit.new.cache c.commit.ensures.cache (holds.memory ready);
       few = few_logged c.args.self.now.parts c.commit.new.cache c.commit.ensures.cache holds.few;
-    }) c.in-Ok.ensures.kept.nothing_waits
-    (c.in-Ok.ensures.kept.lists s (undo (pending c.args.self.now) s) holds.lists)
+    }) c.in-Ok.ensures.kept.nothing_waits (ap length c.clear.ensures)
+    (c.in-Ok.ensures.kept.lists s (undo holds.waiting s) holds.lists)
 
 pub returns-in-Ok-clause-images : goal.returns-in-Ok-clause-images
-returns-in-Ok-clause-images g c = λ s holds. images_before (geometry_of c.args.self.now) (g.M.Media.state c.commit.new.media).contents (undo (pending c.args.self.now) s) s s (c.commit.ensures.kept.stands s (undo (pending c.args.self.now) s) holds.lists)
+returns-in-Ok-clause-images g c = λ s holds. images_before (geometry_of c.args.self.now) (g.M.Media.state c.commit.new.media).contents (undo holds.waiting s) s s (c.commit.ensures.kept.stands s (undo holds.waiting s) holds.lists)
 
 pub returns-in-Err-clause-images : goal.returns-in-Err-clause-images
-returns-in-Err-clause-images g c = λ s holds. images_before (geometry_of c.args.self.now) (g.M.Media.state c.commit.new.media).contents (undo (pending c.args.self.now) s) s s (c.commit.ensures.kept.stands s (undo (pending c.args.self.now) s) holds.lists)
+returns-in-Err-clause-images g c = λ s holds. images_before (geometry_of c.args.self.now) (g.M.Media.state c.commit.new.media).contents (undo holds.waiting s) s s (c.commit.ensures.kept.stands s (undo holds.waiting s) holds.lists)
 
 pub returns-in-Err-clause-nothing : goal.returns-in-Err-clause-nothing
 returns-in-Err-clause-nothing g c = λ none. absurd (false≢true (c.in-Err.ensures.nothing (waiting-none c.args.self.now.parts.log.buffered none)).0)
@@ -39,7 +47,7 @@ returns-in-Ok-clause-costs g c = record {
 }
 
 pub returns-in-Ok-clause-own : goal.returns-in-Ok-clause-own
-returns-in-Ok-clause-own g c = kept_step c.args.self.now _ (g.M.Media.state c.args.media.now).contents (g.M.Media.state c.commit.new.media).contents (λ s. s) (λ s own. own) (λ up. returns-in-Ok-clause-done g c) (returns-in-Ok-clause-images g c)
+returns-in-Ok-clause-own g c = kept_step c.args.self.now _ (g.M.Media.state c.args.media.now).contents (g.M.Media.state c.commit.new.media).contents (λ s. s) (λ s own. own) (λ up s holds. none_losing _ (g.M.Media.state c.commit.new.media).contents s (undo holds.waiting s) s (ap waiting c.in-Ok.ensures.kept.nothing_waits) (returns-in-Ok-clause-done g c s holds)) (returns-in-Ok-clause-images g c)
 
 pub returns-in-Err-clause-own : goal.returns-in-Err-clause-own
 returns-in-Err-clause-own g c = kept_step c.args.self.now c.give_up.new.self (g.M.Media.state c.args.media.now).contents (g.M.Media.state c.commit.new.media).contents (λ s. s) (λ s own. own)

@@ -14,5 +14,5 @@ pub returns-then-is_held-clause-pages : goal.returns-then-is_held-clause-pages
 returns-then-is_held-clause-pages g c = on_ok_from c.write_committed.result (λ v is.
     puts_one c.args.self.now.parts c.write_committed.new.parts (g.M.Media.state c.args.media.now) (g.M.Media.state c.write_committed.new.media) (ok_at c.write_committed.result v is c.write_committed.ensures.pages))
 
-pub returns-clause-one_program : goal.returns-clause-one_program
-returns-clause-one_program g c = on_ok_from c.write_buffered.result (λ v is. λ absent room few. ok_at c.write_buffered.result v is c.write_buffered.ensures.one_program room few)
+pub returns-clause-drives : goal.returns-clause-drives
+returns-clause-drives g c = record { memory = λ is. cc; flash = c.in_ok-write_buffered.ensures.drives.flash }

@@ -1,4 +1,4 @@
-use Rattle.std.proofs.Common.{◌∙◌, Ok, refl, sym, ap, subst}
+use Rattle.std.proofs.Common.{◌∙◌, length, Ok, refl, sym, ap, subst}
 use Rattle.mapping.specs.MapValue.{MapValue}
 use Rattle.op_log.specs.Log.{LogValue}
 use Rattle.merge_engine.specs.declared.parts.Parts.{Parts}
@@ -10,7 +10,8 @@ use Rattle.ssc.specs.CacheState.{Holds, waiting}
 use Rattle.ssc.proofs.OpenLemmas.{full_room, sound_loaded, lists_loaded, images_loaded, load-loaded, made_checkpoint}
 use Rattle.ssc.proofs.HoldsLemmas.{settled_opened, holds_committed}
 use Rattle.ssc.proofs.ListLemmas.{stands_some}
-use Rattle.ssc.proofs.OwnLemmas.{undone_own}
+use Rattle.ssc.proofs.LosingLemmas.{none_losing}
+use Rattle.ssc.proofs.OwnLemmas.{step_own}
 use Rattle.ssc.proofs.opening.LoadedCache.seal.Goals as goal
 
 pub make_checkpoint-requires : goal.make_checkpoint-requires
@@ -31,7 +32,7 @@ returns-in-Ok-clause-opened g c =
     let sealed : Ssc = record c.args.self.cache { parts = c.make_checkpoint.new.cache } in
     let settled = settled_opened sealed after is.unready c.in-Ok.ensures.kept.agree parts is.loaded.map done.cache is.parts.map is.is_loaded.few in
     let holds : (s : CacheList) → FlashStandsFor n before.flash.page s → Holds sealed after s = λ s stands.
-    holds_committed sealed after s settled (ap (λ (l : LogValue). l.buffered) c.in-Ok.ensures.log) (c.in-Ok.ensures.kept.lists s s (lists_loaded n before before is.loaded parts is.is_loaded refl is.parts s stands)) in
+    holds_committed sealed after s settled (ap (λ (l : LogValue). l.buffered) c.in-Ok.ensures.log) (ap length is.places) (c.in-Ok.ensures.kept.lists s s (lists_loaded n before before is.loaded parts is.is_loaded refl is.parts s stands)) in
     let loads = is.is_loaded.loads ∙ ap (λ (k : MapValue). Ok k.entries) (sym is.parts.map) in
     let some = stands_some before.flash.page n is.loaded.map.entries is.is_loaded.loads in
     record {
@@ -47,7 +48,7 @@ returns-in-Ok-clause-opened g c =
         up = is.up;
       };
       is_up = record { list = some.0; holds = holds some.0 some.1; up = is.up };
-      own = λ own. record { list = own.list; holds = holds own.list own.stands; own = own.own; durable = undone_own c.make_checkpoint.new.cache.log.buffered own.list own.own };
+      own = λ own. step_own sealed after own.list own.list own.list own.own own.own own.own (none_losing sealed after own.list own.list own.list (ap (λ (l : LogValue). waiting l.buffered) c.in-Ok.ensures.log) (holds own.list own.stands));
     }
 
 pub returns-in-Ok-clause-stands : goal.returns-in-Ok-clause-stands

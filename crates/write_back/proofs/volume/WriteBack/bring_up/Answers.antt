@@ -1,7 +1,8 @@
-use Rattle.std.proofs.Common.{◌≡◌, true, rules, sym, subst}
+use Rattle.std.proofs.Common.{◌≡◌, true, Ok, rules, sym, subst}
+use Rattle.std.proofs.lemmas.Bool.{both_ways}
 use Rattle.ft_volume.specs.declared.options.Options.{Options}
 use Rattle.cached_disk.specs.Kept as kept
-use Rattle.cached_disk.proofs.OpenedLemmas.{refused_memory}
+use Rattle.cached_disk.proofs.OpenedLemmas.{comes_up, refused_memory}
 use Rattle.write_back.specs.Left.{IsDirtyTable}
 use Rattle.write_back.proofs.VolumeLemmas.{given_up, stays_up}
 use Rattle.write_back.proofs.volume.WriteBack.bring_up.Goals as goal
@@ -20,3 +21,10 @@ returns-in-Err-dirty_table_of-clause-comes g c =
     let v = c.args.self.now in
     let down : kept.is_down v.disk ≡ true = search rules in
     refused_memory v.disk c.bring_up.new.self v.dirty.order v.dirty.order (g.M.Media.state c.args.media.now) (g.M.Media.state c.bring_up.new.media) _ c.in-Ok.ensures.reopens down
+
+pub returns-in-Ok-dirty_table_of-clause-comes : goal.returns-in-Ok-dirty_table_of-clause-comes
+returns-in-Ok-dirty_table_of-clause-comes g c =
+    let v = c.args.self.now in
+    let down : kept.is_down v.disk ≡ true = search rules in
+    comes_up v.disk c.bring_up.new.self v.dirty.order c.in-Ok-dirty_table_of.dirty.order (g.M.Media.state c.args.media.now) (g.M.Media.state c.bring_up.new.media) (Ok tt) c.in-Ok.ensures.reopens
+    (λ up. absurd (both_ways (kept.is_down v.disk) up down)) (λ was. c.in-Ok-dirty_table_of.ensures.order)

@@ -31,7 +31,7 @@ returns-in-Ok-clause-steps g c =
     let noted = noted_as v.dirty.order v.dirty.limit c.args.lba c.p.result v.disk.options.geometry.p c.touch.new.self c.touch.result c.if-is_err.ensures.value c.p.ensures c.touch.ensures.ok in
     record {
       left = put_left v c.args.lba c.write_dirty.new.self c.touch.new.self noted old (g.M.Media.state c.write_dirty.new.media) left c.requires.may.up c.args.block.now c.write_dirty.ensures.runs.geometry c.write_dirty.ensures.runs.drives
-          (c.in-Ok.ensures.done left.disk.held (is_held v old.contents left c.requires.may.up).holds);
+          (c.in-Ok.ensures.done left.disk.held (is_held v old.contents left c.requires.may.up).holds) c.in-Ok.ensures.nothing_waits;
       goes = goes_driven tt old (g.M.Media.state c.write_dirty.new.media) (state_of v) (state_in c.touch.new.self.order (record v.disk { cache = c.write_dirty.new.self })) refl (still_up v.disk c.write_dirty.new.self c.requires.may.up c.in-Ok.ensures.runs.stopped) c.in-Ok.ensures.runs.drives;
       faulted = search rules;
       within = search rules;
@@ -44,7 +44,7 @@ returns-in-Ok-clause-was g c =
     let left = c.requires.may.left in
     let noted = noted_as v.dirty.order v.dirty.limit c.args.lba c.p.result v.disk.options.geometry.p c.touch.new.self c.touch.result c.if-is_err.ensures.value c.p.ensures c.touch.ensures.ok in
     put_was v c.args.lba c.write_dirty.new.self c.touch.new.self noted old (g.M.Media.state c.write_dirty.new.media) left c.requires.may.up c.args.block.now c.write_dirty.ensures.runs.geometry c.write_dirty.ensures.runs.drives
-    (c.in-Ok.ensures.done left.disk.held (is_held v old.contents left c.requires.may.up).holds)
+    (c.in-Ok.ensures.done left.disk.held (is_held v old.contents left c.requires.may.up).holds) c.in-Ok.ensures.nothing_waits
 
 pub returns-in-Ok-clause-table : goal.returns-in-Ok-clause-table
 returns-in-Ok-clause-table g c =
@@ -53,7 +53,7 @@ returns-in-Ok-clause-table g c =
     let left = c.requires.may.left in
     let noted = noted_as v.dirty.order v.dirty.limit c.args.lba c.p.result v.disk.options.geometry.p c.touch.new.self c.touch.result c.if-is_err.ensures.value c.p.ensures c.touch.ensures.ok in
     put_table v c.args.lba c.write_dirty.new.self c.touch.new.self noted old (g.M.Media.state c.write_dirty.new.media) left c.requires.may.up c.args.block.now c.write_dirty.ensures.runs.geometry c.write_dirty.ensures.runs.drives
-    (c.in-Ok.ensures.done left.disk.held (is_held v old.contents left c.requires.may.up).holds)
+    (c.in-Ok.ensures.done left.disk.held (is_held v old.contents left c.requires.may.up).holds) c.in-Ok.ensures.nothing_waits
 
 pub returns-in-Ok-clause-held : goal.returns-in-Ok-clause-held
 returns-in-Ok-clause-held g c =
@@ -62,7 +62,7 @@ returns-in-Ok-clause-held g c =
     let left = c.requires.may.left in
     let noted = noted_as v.dirty.order v.dirty.limit c.args.lba c.p.result v.disk.options.geometry.p c.touch.new.self c.touch.result c.if-is_err.ensures.value c.p.ensures c.touch.ensures.ok in
     put_holds v c.args.lba c.write_dirty.new.self c.touch.new.self noted old (g.M.Media.state c.write_dirty.new.media) left c.requires.may.up c.args.block.now c.write_dirty.ensures.runs.geometry c.write_dirty.ensures.runs.drives
-    (c.in-Ok.ensures.done left.disk.held (is_held v old.contents left c.requires.may.up).holds)
+    (c.in-Ok.ensures.done left.disk.held (is_held v old.contents left c.requires.may.up).holds) c.in-Ok.ensures.nothing_waits
 
 -- the write failed or was cut
 

@@ -29,7 +29,7 @@ pub make_room-requires-clause-left : goal.make_room-requires-clause-left
 make_room-requires-clause-left g c =
     let old = (g.M.Media.state c.args.media.now).contents in
     let taken = c.reserve.ensures in
-    reserved_left c.args.self.now c.reserve.new.self taken.entries taken.stopped old c.requires.may.left (taken.holds old) taken.same taken.pending
+    reserved_left c.args.self.now c.reserve.new.self taken.entries taken.stopped old c.requires.may.left taken.holds taken.same taken.pending
 
 -- its memory was refused
 
@@ -38,7 +38,7 @@ returns-then-is_err-clause-steps g c =
     let old = (g.M.Media.state c.args.media.now).contents in
     let taken = c.reserve.ensures in
     record {
-      left = reserved_left c.args.self.now c.reserve.new.self taken.entries taken.stopped old c.requires.may.left (taken.holds old) taken.same taken.pending;
+      left = reserved_left c.args.self.now c.reserve.new.self taken.entries taken.stopped old c.requires.may.left taken.holds taken.same taken.pending;
       goes = search rules;
       faulted = search rules;
       within = search rules;
