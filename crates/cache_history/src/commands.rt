@@ -1,4 +1,4 @@
-ghost use Rattle.std.specs.Prelude.{◌≡◌, ◌<◌, None, OnOk, IfOk, IfErr};
+ghost use Rattle.std.specs.Prelude.{◌≡◌, ◌<◌, ℕ, None, OnOk, IfOk, IfErr, IsErrOf};
 ghost use Rattle.ft_base.specs.Contents.{Image, Now};
 ghost use Rattle.ft_media.specs.Drives.{DrivesFlash};
 ghost use Rattle.ft_media.specs.Reads.{ReadsFlash};
@@ -8,9 +8,10 @@ ghost use Rattle.cache_model.specs.Loading.{load};
 ghost use Rattle.cache_model.specs.Stands.{FlashStandsFor};
 ghost use Rattle.op_log.specs.Log.{FitsOn};
 ghost use Rattle.op_log.specs.Refusals.{open_failed, open_lost, IsRefusal};
-ghost use Rattle.ssc.specs.CacheState.{IsUp, geometry_of};
+ghost use Rattle.ssc.specs.CacheState.{IsUp, entries_of, geometry_of};
 ghost use Rattle.ssc.specs.Errors.{ssc_failed, ssc_lost, stops};
 ghost use Rattle.ssc.specs.Own.{HoldsOwn, KeepsOwn, LoadsOwn};
+ghost use Rattle.ssc.specs.Scrubbed.{IsScrub};
 ghost use Rattle.cache_history.specs.History.{TwoLists, given, both_alike, AfterAnswer, AfterRefusal};
 ghost use Rattle.cache_history.specs.Moment.{IsMoment, IsNoEvent};
 
@@ -79,6 +80,8 @@ pub fn clear<M: Media>(media: &mut M, geometry: &Geometry) -> Result<(), SscErro
     requires { FitsOn geometry.now (M.state media.old).contents.shape }
     ensures empty { OnOk result (FlashStandsFor geometry.now (M.state media.new).contents.flash.page empty) }
     ensures own { OnOk result (LoadsOwn geometry.now (M.state media.new).contents.flash.page) }
+    ensures full { (n l : ℕ) → IsErrOf result (SscError.Full n l) → ⊥ }
+    ensures memory { IsErrOf result SscError.OutOfMemory → ⊥ }
     ensures drives { DrivesFlash (M.state media.old) (M.state media.new) (ssc_failed result) (ssc_lost result) }
 {
     Ssc::format(media, geometry)
@@ -88,6 +91,9 @@ pub fn clear<M: Media>(media: &mut M, geometry: &Geometry) -> Result<(), SscErro
 pub fn look<M: Media>(cache: &mut Ssc, media: &mut M) -> Result<Scrub, SscError>
     requires { IsUp cache.old (M.state media.old).contents }
     ensures same { cache.new ≡ cache.old }
+    ensures found { IfOk result (IsScrub (geometry_of cache.old) (M.state media.old).contents.flash.page (entries_of cache.old)) }
+    ensures full { (n l : ℕ) → IsErrOf result (SscError.Full n l) → ⊥ }
+    ensures memory { IsErrOf result SscError.OutOfMemory → ⊥ }
     ensures own { HoldsOwn cache.old (M.state media.old).contents → IfOk result (λ scrub. scrub.strange ≡ None)
         × HoldsOwn cache.new (M.state media.new).contents }
     ensures reads { ReadsFlash (M.state media.old) (M.state media.new) (ssc_failed result) (ssc_lost result) }
