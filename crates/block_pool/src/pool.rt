@@ -39,7 +39,8 @@ pub struct Pool {
 }
 
 impl Model for Pool {
-    ghost use Rattle.std.specs.Prelude.{◌≡◌, ◌+◌, ◌≤◌, length};
+    ghost use Rattle.std.specs.Prelude.{◌≡◌, ◌+◌, ◌≤◌, length, vec_len};
+    ghost use Rattle.std.specs.Vec.{vec_capacity};
     ghost use Rattle.ft_base.specs.Layout.{first_pool};
     ghost use Rattle.block_pool.specs.Pool.{PoolValue};
 
@@ -47,12 +48,13 @@ impl Model for Pool {
 
     ghost view = { λ p. record { geometry = p.geometry; blocks = p.blocks.items } };
 
-    ghost invariant = { λ p. (p.first ≡ first_pool p.geometry) × (length p.blocks.items ≡ p.geometry.c + p.geometry.l + 1) };
+    ghost invariant = { λ p. (p.first ≡ first_pool p.geometry) × (length p.blocks.items ≡ p.geometry.c + p.geometry.l + 1)
+        × (vec_capacity p.blocks ≡ vec_len p.blocks) };
 }
 
 impl Pool {
     /// A pool in which every block is free and was never erased. It allocates all memory that the pool will ever need,
-    /// and fails only with out of memory.
+    /// an entry for each of the C + L + 1 blocks, and fails only with out of memory.
     pub fn new(alloc: Global, geometry: &Geometry) -> Result<Pool, AllocError>
         ensures geometry { IfOk result (λ pool. pool.geometry ≡ geometry.now) }
         ensures free { IfOk result (λ pool. (b : ℕ) → IsInPool geometry.now b → IsFree pool b) }
@@ -63,10 +65,16 @@ impl Pool {
             erases: 0,
         };
         let count = geometry.c + geometry.l + 1;
+        let blocks = vec![in alloc; unused; count as usize]?;
+        // The list that `vec!` makes has no more memory, but `vec!` doesn't promise that. So a longer list counts as
+        // out of memory.
+        if blocks.capacity() > blocks.len() {
+            return Err(AllocError);
+        }
         Ok(Pool {
             geometry: *geometry,
             first: geometry.first_pool(),
-            blocks: vec![in alloc; unused; count as usize]?,
+            blocks,
         })
     }
 

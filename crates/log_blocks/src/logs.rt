@@ -24,7 +24,7 @@ pub struct LogBlocks {
 }
 
 impl Model for LogBlocks {
-    ghost use Rattle.std.specs.Prelude.{◌≤◌};
+    ghost use Rattle.std.specs.Prelude.{◌≡◌};
     ghost use Rattle.std.specs.Vec.{vec_capacity};
     ghost use Rattle.log_blocks.specs.Logs.{LogBlocksValue, AreSoundLogs};
 
@@ -33,11 +33,11 @@ impl Model for LogBlocks {
     ghost view = { λ b. record { geometry = b.geometry; used = b.used.items; open_block = b.open_block; room = b.room } };
 
     ghost invariant = { λ b. AreSoundLogs (record { geometry = b.geometry; used = b.used.items; open_block = b.open_block; room = b.room })
-        × (b.geometry.l ≤ vec_capacity b.used) };
+        × (vec_capacity b.used ≡ b.geometry.l) };
 }
 
 impl LogBlocks {
-    /// No block in use, and room for the numbers of L blocks.
+    /// No block in use, and room for the numbers of L blocks and no more.
     pub fn new(alloc: Global, geometry: &Geometry) -> Result<LogBlocks, AllocError>
         ensures { IfOk result (λ logs. logs ≡ record { geometry = geometry.now; used = []; open_block = None; room = 0 }) }
     {
@@ -101,11 +101,8 @@ impl LogBlocks {
         ensures adopted { self.new ≡ adopted block self.old }
         ensures sound { AreSoundLogs self.new }
     {
-        match self.used.push(block) {
-            Ok(()) => {}
-            // The list was made with room for all L log blocks, and it has fewer.
-            Err(_) => unreachable!(),
-        }
+        // The list was made with room for all L log blocks, and it has fewer.
+        self.used.push_reserved(block);
         self.open_block = None;
         self.room = 0;
     }
