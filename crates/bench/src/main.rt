@@ -1,6 +1,7 @@
 //! Measures the program and parts of it, and prints its findings as a table. Without words it prints one fixed line.
 //! The first word names the measurement. After `run` come the options of a made trace, as the program's own word
-//! `gen` takes them. After `sweep` and `form` come the options that `replay` takes.
+//! `gen` takes them; behind its row comes one of single writes with both values of `--ack`. After `sweep` and `form` come
+//! the options that `replay` takes.
 //!
 //! | Status | When |
 //! |---|---|

@@ -1,6 +1,7 @@
 //! The whole program once, over a small volume, and its floor; and a row of the table.
 use crate::clock::Slowing;
 use ft_media::Counts;
+use run_bench::acked::{Acked, Run, write_acked};
 use run_bench::floor::floor;
 use run_bench::forms::{Formed, read_forms};
 use run_bench::memory::{peak_in, peak_memory};
@@ -62,6 +63,28 @@ fn a_sweep_is_measured_beside_its_runs(rt: HostRuntime) -> Result<(), Fail> {
         single: Duration::from_micros(2_000),
     };
     assert_eq!(rt; swept.ratio(), 105);
+    Ok(())
+}
+
+// With the default each write programs a page of the log too. Otherwise a log block of 64 writes has one such page.
+#[test]
+fn a_flush_spares_nearly_half_of_the_programs(rt: HostRuntime) -> Result<(), Fail> {
+    let Ok(acked) = write_acked(&rt)? else {
+        return Err(Fail::new("a run ended early"));
+    };
+    assert!(rt; acked.write.programs >= 40_000 && acked.flush.programs >= 20_000);
+    assert!(rt; acked.programs_ratio() < 55);
+    let acked = Acked {
+        write: Run {
+            programs: 4_000,
+            time: Duration::from_micros(2_000),
+        },
+        flush: Run {
+            programs: 2_100,
+            time: Duration::from_micros(1_300),
+        },
+    };
+    assert_eq!(rt; (acked.programs_ratio(), acked.time_ratio()), (52, 65));
     Ok(())
 }
 

@@ -5,7 +5,7 @@ use Rattle.std.specs.FinMap.{entries, get-empty, len-empty, len-entries}
 use Rattle.std.specs.Option.{is_some}
 use Rattle.std.specs.Ordering.{nat_cmp}
 use Rattle.ft_base.specs.Contents.{Contents, Image}
-use Rattle.ft_base.specs.PlainDisk.{PlainDisk, empty}
+use Rattle.ft_base.specs.PlainDisk.{BlockWrite, PlainDisk, empty}
 use Rattle.ft_base.specs.StreamState.{SinkState, SourceState}
 use Rattle.ft_base.specs.Table.{table_of}
 use Rattle.ft_base.specs.Told.{Told}
@@ -64,13 +64,14 @@ module _ (g : Geometry) (old made now : State) (fit : made ≡ fitted_for g old)
   before_new reads writes cuts passes ready = subst (λ (x : State). IsBefore x now) fit (record { shape = passes.shape; disk_reads = reads; disk_writes = writes; counts = passes.counts; cuts = cuts; ready = ready })
 
 -- a volume that was opened over what it was made on
-pub new_from : (mode : Mode) (options : Options) (owns : Contents → Type 0) (v : VolumeState) (old made now : State) → made ≡ fitted_for options.geometry old
-    → owns now.contents → IsOpened (told_for mode options) nothing_held v
+pub new_from : (mode : Mode) (options : Options) (owns : Contents → Type 0) (owes : Contents → List BlockWrite → Type 0) (v : VolumeState) (old made now : State) → made ≡ fitted_for options.geometry old
+    → owns now.contents → owes now.contents [] → IsOpened (told_for mode options) nothing_held v
     → ((d : PlainDisk) → IsNewestOnDisk options.geometry made.contents d → StandFor (ImageIs (told_for mode options)) now.contents d)
     → KeepsReady made now → now.counts.disk_reads ≡ made.counts.disk_reads → now.counts.disk_writes ≡ made.counts.disk_writes → made.faults.cuts ≤ now.faults.cuts → Passes made now false
-    → IsNewVolume (told_for mode options) owns v old now
-new_from mode options owns v old made now fit left opened stands ready reads writes cuts passes = record {
+    → IsNewVolume (told_for mode options) owns owes v old now
+new_from mode options owns owes v old made now fit left owed opened stands ready reads writes cuts passes = record {
   left = left;
+  owed = owed;
   told = opened.told;
   up = opened.up;
   table = opened.table ∙ table_none options.geometry.p options.geometry.size;
@@ -82,14 +83,14 @@ new_from mode options owns v old made now fit left opened stands ready reads wri
 }
 
 -- it is a disk of zero blocks, also as the volume tells it
-pub empty_new : {o : Told} {owns : Contents → Type 0} {v : VolumeState} {old now : State} → IsNewVolume o owns v old now → StandFor (ImageIs v.told) now.contents empty
+pub empty_new : {o : Told} {owns : Contents → Type 0} {owes : Contents → List BlockWrite → Type 0} {v : VolumeState} {old now : State} → IsNewVolume o owns owes v old now → StandFor (ImageIs v.told) now.contents empty
 empty_new {now = now} new = subst (λ (k : Told). StandFor (ImageIs k) now.contents empty) (sym new.told) new.empty
 
 -- so a run can begin on it
-pub fresh_new : (mode : Mode) (options : Options) {owns : Contents → Type 0} {v : VolumeState} {old now : State} (stands : Told → Image → PlainDisk → Type 0) → IsNewVolume (told_for mode options) owns v old now → StandFor (stands v.told) now.contents empty
-    → IsAsMade stands v now
+pub fresh_new : (mode : Mode) (options : Options) {owns : Contents → Type 0} {owes : Contents → List BlockWrite → Type 0} {v : VolumeState} {old now : State} (stands : Told → Image → PlainDisk → Type 0) → IsNewVolume (told_for mode options) owns owes v old now → StandFor (stands v.told) now.contents empty
+    → IsAsMade (owes now.contents) stands v now
 fresh_new mode options stands new stood = record {
-  ack = ap (λ (k : Told). k.ack) new.told;
+  nothing_owed = new.owed;
   on = new.on;
   unarmed = new.unarmed;
   dirty = subst (λ (k : Told). k.dirty ≤ k.geometry.c) (sym new.told) options.dirty_high;
@@ -176,7 +177,7 @@ goes_begun x begins = record {
 
 -- ---- the records of a run over it
 
-module _ (mode kind : Mode) (options : Options) (is : mode ≡ kind) {owns : Contents → Type 0} {v : VolumeState} {old begun : State} (new : IsNewVolume (told_for kind options) owns v old begun)
+module _ (mode kind : Mode) (options : Options) (is : mode ≡ kind) {owns : Contents → Type 0} {owes : Contents → List BlockWrite → Type 0} {v : VolumeState} {old begun : State} (new : IsNewVolume (told_for kind options) owns owes v old begun)
     (u : Told) (stays : u ≡ v.told) (form : Form) (a z : SourceState) (x y : SinkState) (now : State) where
   same : v.told ≡ told_for mode options
   same = new.told ∙ ap (λ (m : Mode). told_for m options) (sym is)
@@ -191,7 +192,7 @@ module _ (mode kind : Mode) (options : Options) (is : mode ≡ kind) {owns : Con
 
 -- ---- the records of a run of given lines over it
 
-module _ (mode kind : Mode) (options : Options) (is : mode ≡ kind) {owns : Contents → Type 0} {v : VolumeState} {old begun : State} (new : IsNewVolume (told_for kind options) owns v old begun)
+module _ (mode kind : Mode) (options : Options) (is : mode ≡ kind) {owns : Contents → Type 0} {owes : Contents → List BlockWrite → Type 0} {v : VolumeState} {old begun : State} (new : IsNewVolume (told_for kind options) owns owes v old begun)
     (u : Told) (stays : u ≡ v.told) (left lines : List Line) (given : left ≡ lines)
     (says : List Ran → List Answer → Type 0) (part : List Ran → List Answer → Option Answer → Type 0) (now : State) where
   told_made : v.told ≡ told_for mode options

@@ -3,7 +3,7 @@ use Rattle.std.proofs.Common.{◌≡◌, ◌⊎◌, inl, inr, ◌<◌, ℕ, Bool
 use Rattle.std.proofs.lemmas.List.{append-nil}
 use Rattle.std.specs.Io.KnownBytes.{Appends, Keeps}
 use Rattle.ft_base.specs.Contents.{Contents, Image}
-use Rattle.ft_base.specs.PlainDisk.{PlainDisk}
+use Rattle.ft_base.specs.PlainDisk.{BlockWrite, PlainDisk}
 use Rattle.ft_base.specs.StreamState.{SinkState, SourceState}
 use Rattle.ft_base.specs.Told.{Told}
 use Rattle.ft_base.specs.declared.told.Mode.{Mode}
@@ -93,7 +93,7 @@ module _ (o : Told) (reads : ℕ → List Reading → Bool → Type 0) (stands :
 
 -- ---- over a new volume
 
-module _ (mode kind : Mode) (options : Options) (is : mode ≡ kind) {owns : Contents → Type 0} {v : VolumeState} {old begun : State} (new : IsNewVolume (told_for kind options) owns v old begun)
+module _ (mode kind : Mode) (options : Options) (is : mode ≡ kind) {owns : Contents → Type 0} {owes : Contents → List BlockWrite → Type 0} {v : VolumeState} {old begun : State} (new : IsNewVolume (told_for kind options) owns owes v old begun)
     (u : Told) (stays : u ≡ v.told) (form : Form) (a b : SourceState) (x y : SinkState) (now : State) where
   told_made : v.told ≡ told_for mode options
   told_made = new.told ∙ ap (λ (m : Mode). told_for m options) (sym is)

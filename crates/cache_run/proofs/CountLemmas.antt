@@ -6,7 +6,7 @@ use Rattle.std.proofs.lemmas.List.{append-nil}
 use Rattle.std.specs.List.{AllByRecursion}
 use Rattle.ft_base.specs.Contents.{Contents, Image}
 use Rattle.ft_base.specs.Count.{Rose, last_count}
-use Rattle.ft_base.specs.PlainDisk.{PlainDisk}
+use Rattle.ft_base.specs.PlainDisk.{BlockWrite, PlainDisk}
 use Rattle.ft_base.specs.StreamState.{SinkState}
 use Rattle.ft_base.specs.Told.{Told}
 use Rattle.ft_base.specs.declared.told.Ack.{Ack}
@@ -108,7 +108,7 @@ counts_whole {lines = lines} {first = first} {now = now} count uncut ran exact b
 
 -- ---- over a new volume
 
-pub made_new : (mode kind : Mode) (options : Options) → mode ≡ kind → {owns : Contents → Type 0} {v : VolumeState} {old made : State} → IsNewVolume (told_for kind options) owns v old made
+pub made_new : (mode kind : Mode) (options : Options) → mode ≡ kind → {owns : Contents → Type 0} {owes : Contents → List BlockWrite → Type 0} {v : VolumeState} {old made : State} → IsNewVolume (told_for kind options) owns owes v old made
     → IsMadeOn (told_for mode options) old made
 made_new mode kind options is {old = old} {made = made} new = subst (λ (m : Mode). IsMadeOn (told_for m options) old made) (sym is) (record {
   empty = λ x here. image_stands (told_for kind options) x _ (new.empty x here);
@@ -117,8 +117,8 @@ made_new mode kind options is {old = old} {made = made} new = subst (λ (m : Mod
   before = new.before;
 })
 
-pub counted_new : (mode kind : Mode) (options : Options) (is : mode ≡ kind) {owns : Contents → Type 0} {v : VolumeState} {old made now : State} {lines : List Line} {count : ℕ}
-    → IsNewVolume (told_for kind options) owns v old made → CountsFrom lines count made now → CountsWrites (told_for mode options) lines count old now
+pub counted_new : (mode kind : Mode) (options : Options) (is : mode ≡ kind) {owns : Contents → Type 0} {owes : Contents → List BlockWrite → Type 0} {v : VolumeState} {old made now : State} {lines : List Line} {count : ℕ}
+    → IsNewVolume (told_for kind options) owns owes v old made → CountsFrom lines count made now → CountsWrites (told_for mode options) lines count old now
 counted_new mode kind options is {made = made} new from = record { made = made; new = made_new mode kind options is new; from = from }
 
 -- ---- whatever it answers

@@ -1,15 +1,16 @@
 -- A run that prints nothing, with a report after it, and the same over a new volume.
-use Rattle.std.proofs.Common.{◌≡◌, ◌≢◌, ◌≤◌, inl, inr, ℕ, ◌+◌, ◌-◌, min, Bool, true, List, [], ◌∷◌, length, drop, Option, Some, None, Result, Ok, Err, OnOk, IfErr, IsErrOf, refl, sym, ap, ◌∙◌, subst, arith}
+use Rattle.std.proofs.Common.{◌≡◌, ◌≢◌, ◌≤◌, inl, inr, ℕ, zero, suc, ◌+◌, ◌-◌, min, Bool, true, List, [], ◌∷◌, ◌++◌, length, drop, Option, Some, None, Result, Ok, Err, OnOk, IfErr, IsErrOf, refl, sym, ap, ◌∙◌, subst, arith}
 use Rattle.std.specs.Io.KnownBytes.{Appends, Keeps}
-use Rattle.std.proofs.lemmas.List.{drop-drop, length-drop}
+use Rattle.std.proofs.lemmas.List.{append_assoc, drop-drop, length-drop}
 use Rattle.ft_base.specs.Contents.{Contents, Image}
 use Rattle.ft_base.specs.Count.{Rose, last_count}
-use Rattle.ft_base.specs.PlainDisk.{PlainDisk}
+use Rattle.ft_base.specs.PlainDisk.{BlockWrite, PlainDisk}
 use Rattle.ft_base.specs.StreamState.{SinkState, SourceState}
 use Rattle.ft_base.specs.Told.{Told}
 use Rattle.ft_base.specs.declared.block.Page.{Page}
 use Rattle.ft_base.specs.declared.block.Place.{Place}
 use Rattle.ft_base.specs.declared.geometry.Geometry.{Geometry}
+use Rattle.ft_base.specs.declared.told.Ack.{Ack}
 use Rattle.ft_base.specs.declared.told.Ack.TheVariants as ack
 use Rattle.ft_base.specs.declared.told.Mode.{Mode}
 use Rattle.cache_model.specs.Records.{Entries}
@@ -26,15 +27,15 @@ use Rattle.trace_model.specs.declared.ran.Ran.{Ran}
 use Rattle.trace_model.specs.Backs.{ReadsFew, WritesBack, WritesNone}
 use Rattle.trace_model.specs.Fits.{FitsEnd, armed_after}
 use Rattle.trace_model.specs.Readings.{Reading, Reads}
-use Rattle.trace_model.specs.Run.{cuts_in, disk_without, end_answers, end_of, lines_of, stopped}
+use Rattle.trace_model.specs.Run.{cuts_in, disk_without, end_answers, end_of, lines_of, lost_told, stopped}
 use Rattle.trace_model.specs.Text.{text}
 use Rattle.trace_model.proofs.RunLemmas.{disk_without-none}
 use Rattle.trace_replay.specs.declared.ended.Ended.{Ended}
 use Rattle.trace_replay.specs.declared.ended.Ended.TheVariants as ended
 use Rattle.trace_replay.specs.Before.{IsBefore}
 use Rattle.trace_replay.specs.Commands.{TellsRefusal, TellsRefusalPart}
-use Rattle.trace_replay.specs.Said.{RoseAtLeast, Takes}
-use Rattle.trace_replay.specs.Theorem.{EndsEarly, EndsPart, LeavesRig, RunsWhole}
+use Rattle.trace_replay.specs.Said.{RoseAtLeast, Takes, TellsStops, TookPart, stops_in}
+use Rattle.trace_replay.specs.Theorem.{EndsEarly, EndsPart, LeavesRig, RunsWhole, spent_by}
 use Rattle.trace_replay.specs.Went.{Keeps as KeepsDisk}
 use Rattle.trace_replay.proofs.FromLemmas.{before_itself, leaves_from, part_from, refused_from, unread_from}
 use Rattle.cache_run.specs.Begun.{IsNewVolume}
@@ -43,19 +44,33 @@ use Rattle.cache_run.specs.Inspected.{Asks, EndsInspected, EndsInspecting, Inspe
 use Rattle.cache_run.proofs.SilentLemmas.{front_silent, kept_none, kept_then, none_stopped}
 use Rattle.cache_run.proofs.UncutLemmas.{disk_after-uncut, uncut_none}
 use Rattle.trace_replay.proofs.EndingLemmas.{failed_by}
-use Rattle.trace_replay.proofs.CutsLemmas.{counts_then, long_stopped, stops_all}
+use Rattle.trace_replay.proofs.CutsLemmas.{counts_then, long_stopped, stops_all, stops_then as stops_add}
 
 -- ---- how it ended
 
--- what was taken at any end, from what was where the sink failed and where not
-takes_at : (e : Ended) (says : List Answer → Type 0) (short : List Answer → Option Answer → Type 0) (front : List Answer) (next : Answer)
-    → (e ≡ ended.Sink → short front (Some next)) → (e ≢ ended.Sink → says front) → Takes e says short front (next ∷ [])
-takes_at ended.Sink says short front next broke said = broke refl
-takes_at ended.Trace says short front next broke said = said (λ is. cc)
-takes_at ended.Source says short front next broke said = said (λ is. cc)
-takes_at ended.Flash says short front next broke said = said (λ is. cc)
-takes_at ended.Disk says short front next broke said = said (λ is. cc)
-takes_at ended.Memory says short front next broke said = said (λ is. cc)
+-- what was taken if the sink didn't fail
+takes_other : (e : Ended) (says : List Answer → Type 0) (short : List Answer → Option Answer → Type 0) (front rest : List Answer) → e ≢ ended.Sink → says front → Takes e says short front rest
+takes_other ended.Sink says short front rest other said = absurd (other refl)
+takes_other ended.Trace says short front rest other said = said
+takes_other ended.Source says short front rest other said = said
+takes_other ended.Flash says short front rest other said = said
+takes_other ended.Disk says short front rest other said = said
+takes_other ended.Memory says short front rest other said = said
+
+-- behind the last line all lines count for the calls of the disk
+spent_none : (a : Ack) (run : List Ran) → spent_by a run [] ≡ run
+spent_none ack.Write run = refl
+spent_none ack.Flush run = refl
+
+-- lost block writes tell no stop
+stops_lost : (n : ℕ) → stops_in (lost_told n) ≡ 0
+stops_lost zero = refl
+stops_lost (suc n) = refl
+
+-- there is a last answer
+some_last : (xs : List Answer) (y : Answer) → xs ++ y ∷ [] ≡ [] → ⊥
+some_last [] y is = cc
+some_last (x ∷ xs) y is = cc
 
 took_front : (e : Ended) (says : List Answer → Type 0) (short : List Answer → Option Answer → Type 0) (front rest : List Answer) → Takes e says short front rest → e ≢ ended.Sink → says front
 took_front ended.Sink says short front rest taken other = absurd (other refl)
@@ -96,7 +111,7 @@ inspected_then ended.Memory not_trace not_source ends = ends
 
 -- all lines were run, and then a report was asked for, again after so many cuts
 module _ (o : Told) (reads : ℕ → List Reading → Bool → Type 0) (stands after : Image → PlainDisk → Type 0) (loads : (Place → Page) → Entries → Type 0) (x y z : SinkState) (first mid now : State)
-    (quiet : RunsWhole o reads (TellsRefusal x y) stands first mid) (silent : Keeps x.taken y.taken) (n : ℕ) (asks : Asks n mid now) (kept : KeepsDisk stands after mid.contents now.contents) (acked : o.ack ≡ ack.Write) where
+    (quiet : RunsWhole o reads (TellsRefusal x y) stands first mid) (silent : Keeps x.taken y.taken) (n : ℕ) (asks : Asks n mid now) (kept : KeepsDisk stands after mid.contents now.contents) where
   rig_then : LeavesRig o first now quiet.run quiet.run
   rig_then = record {
     on = asks.on;
@@ -151,51 +166,81 @@ module _ (o : Told) (reads : ℕ → List Reading → Bool → Type 0) (stands a
     };
     uncut = λ calm.
         let none = uncut_none o.ack quiet.run (quiet.cuts + n) first.faults.cuts now.faults.cuts quiet.lines.fits few_then risen_then calm in
-        subst (λ (d : PlainDisk). StandFor after now.contents d) (disk_without-none quiet.lost quiet.run (quiet.leaves.fits.losses.none acked) ∙ disk_after-uncut o.ack quiet.run quiet.lines.fits none) disk_then;
+        subst (λ (d : PlainDisk). StandFor after now.contents d) (disk_without-none quiet.lost quiet.run (fits_then.cut none.1) ∙ disk_after-uncut o.ack quiet.run quiet.lines.fits none.0) disk_then;
   }
 
   -- it ended before all of it was printed
-  pub inspecting_then : (e : Ended) → (e ≡ ended.Sink → PrintsFront o.geometry loads now y z) → (e ≢ ended.Sink → z ≡ y) → EndsInspecting o reads loads x z after first now e
-  inspecting_then e short same =
+  abbrev Part : Ended → Type 0
+  Part e = TookPart e (TellsRefusal x z quiet.run) (TellsInspectPart o.geometry loads now x z quiet.run) (end_answers quiet.run (quiet.cuts + n) quiet.lost)
+
+  ends_then : (e : Ended) (part : Part e) → (part.rest ≡ [] → ⊥) → TellsStops e part.front (cuts_in quiet.run) first now (armed_after quiet.run) → (e ≢ ended.Sink → Appends x.taken z.taken []) → EndsInspecting o reads loads x z after first now e
+  ends_then e part some stops nothing = record {
+    part = record {
+      all = quiet.all;
+      whole = true;
+      run = quiet.run;
+      left = [];
+      due = end_answers quiet.run (quiet.cuts + n) quiet.lost;
+      given = length (lines_of quiet.run);
+      after = omega arith;
+      next = omega arith;
+      trace = quiet.trace;
+      lines = quiet.lines;
+      may = record { cuts = quiet.cuts + n; lost = quiet.lost; fits = fits_then; told = refl };
+      part = part;
+      proper = λ empty. absurd (some empty);
+      stops = stops;
+      media = λ image here. (quiet.lost, 0, record { blocks = omega arith; none = quiet.leaves.fits.losses.none; since = quiet.leaves.fits.losses.since; front = λ one. refl }, disk_then image here);
+      rig = subst (λ (rs : List Ran). LeavesRig o first now rs quiet.run) (sym (spent_none o.ack quiet.run)) rig_then;
+    };
+    silent = nothing;
+  }
+
+  -- as the sink failed, within the report
+  inspecting_sink : PrintsFront o.geometry loads now y z → EndsInspecting o reads loads x z after first now ended.Sink
+  inspecting_sink part =
       let k = quiet.cuts + n in
-      let none = quiet.leaves.fits.losses.none acked in
-      let nothing : e ≢ ended.Sink → Appends x.taken z.taken [] = λ other. subst (λ (s : SinkState). Appends x.taken s.taken []) (sym (same other)) (kept_none x.taken y.taken silent) in
-      record {
-        part = record {
-          all = quiet.all;
-          whole = true;
-          run = quiet.run;
-          left = [];
-          due = end_answers quiet.run k quiet.lost;
-          given = length (lines_of quiet.run);
-          after = omega arith;
-          next = omega arith;
-          trace = quiet.trace;
-          lines = quiet.lines;
-          may = record { cuts = k; lost = quiet.lost; fits = fits_then; told = refl };
-          part = record {
-            front = stopped k;
-            rest = end_of quiet.lost quiet.run ∷ [];
-            both = refl;
-            taken = takes_at e (TellsRefusal x z quiet.run) (TellsInspectPart o.geometry loads now x z quiet.run) (stopped k) (end_of quiet.lost quiet.run)
-                (λ is. let part = short is in inr (refl, record { report = part.report; is = part.is; count = part.count; short = part.short; printed = kept_then x.taken y.taken z.taken _ silent part.printed }))
-                (λ other. subst (λ (r : List Answer). Appends x.taken z.taken (text r)) (sym (none_stopped k)) (nothing other));
-          };
-          proper = λ empty. absurd (let some : end_of quiet.lost quiet.run ∷ [] ≡ [] = empty in cc);
-          stops =
-              let all = stops_all k in
-              let long = long_stopped k in
-              record {
-                risen = λ below. let rose = risen_then below in omega arith;
-                only = λ device. ap stopped (sym long);
-                queue = λ device. stops_then ∙ ap (λ i. drop i (armed_after quiet.run)) (sym long);
-                fell = (k, omega arith, omega arith, stops_then);
-              };
-          media = λ image here. (quiet.lost, 0, record { blocks = omega arith; none = λ at_write. none; since = omega arith; front = λ one. refl }, disk_then image here);
-          rig = rig_then;
-        };
-        silent = nothing;
-      }
+      let said = stopped k ++ lost_told quiet.lost in
+      let all : stops_in said ≡ k + 0 = stops_add (stopped k) (lost_told quiet.lost) ∙ ap (λ i. i + stops_in (lost_told quiet.lost)) (stops_all k) ∙ ap (λ i. k + i) (stops_lost quiet.lost) in
+      ends_then ended.Sink (record {
+        front = said;
+        rest = end_of quiet.lost quiet.run ∷ [];
+        both = sym (append_assoc (stopped k) (lost_told quiet.lost) (end_of quiet.lost quiet.run ∷ []));
+        taken = inr (refl, record { report = part.report; is = part.is; count = part.count; short = part.short; printed = kept_then x.taken y.taken z.taken _ silent part.printed });
+      }) (λ empty. absurd (let some : end_of quiet.lost quiet.run ∷ [] ≡ [] = empty in cc)) (record {
+        risen = λ below. let rose = risen_then below in omega arith;
+        only = λ device. absurd device;
+        queue = λ device. absurd device;
+        fell = (k, omega arith, omega arith, stops_then);
+      }) (λ other. absurd (other refl))
+
+  -- and in any other way, when nothing of it was printed
+  inspecting_other : (e : Ended) → e ≢ ended.Sink → z ≡ y → EndsInspecting o reads loads x z after first now e
+  inspecting_other e other same =
+      let k = quiet.cuts + n in
+      let all = stops_all k in
+      let long = long_stopped k in
+      let nothing : Appends x.taken z.taken [] = subst (λ (s : SinkState). Appends x.taken s.taken []) (sym same) (kept_none x.taken y.taken silent) in
+      ends_then e (record {
+        front = stopped k;
+        rest = lost_told quiet.lost ++ end_of quiet.lost quiet.run ∷ [];
+        both = refl;
+        taken = takes_other e (TellsRefusal x z quiet.run) (TellsInspectPart o.geometry loads now x z quiet.run) (stopped k) (lost_told quiet.lost ++ end_of quiet.lost quiet.run ∷ []) other
+            (subst (λ (r : List Answer). Appends x.taken z.taken (text r)) (sym (none_stopped k)) nothing);
+      }) (some_last (lost_told quiet.lost) (end_of quiet.lost quiet.run)) (record {
+        risen = λ below. let rose = risen_then below in omega arith;
+        only = λ device. ap stopped (sym long);
+        queue = λ device. stops_then ∙ ap (λ i. drop i (armed_after quiet.run)) (sym long);
+        fell = (k, omega arith, omega arith, stops_then);
+      }) (λ still. nothing)
+
+  pub inspecting_then : (e : Ended) → (e ≡ ended.Sink → PrintsFront o.geometry loads now y z) → (e ≢ ended.Sink → z ≡ y) → EndsInspecting o reads loads x z after first now e
+  inspecting_then ended.Sink short same = inspecting_sink (short refl)
+  inspecting_then ended.Trace short same = inspecting_other ended.Trace (λ is. cc) (same (λ is. cc))
+  inspecting_then ended.Source short same = inspecting_other ended.Source (λ is. cc) (same (λ is. cc))
+  inspecting_then ended.Flash short same = inspecting_other ended.Flash (λ is. cc) (same (λ is. cc))
+  inspecting_then ended.Disk short same = inspecting_other ended.Disk (λ is. cc) (same (λ is. cc))
+  inspecting_then ended.Memory short same = inspecting_other ended.Memory (λ is. cc) (same (λ is. cc))
 
   -- by what the report answered
   pub inspected_by : (r : Result (Unit {0}) Ended) → OnOk r (n ≡ 0 → KeepsReady mid now) → OnOk r (PrintsReport o.geometry loads now y z) → (IsErrOf r ended.Sink → PrintsFront o.geometry loads now y z)
@@ -271,7 +316,7 @@ early_on o reads says short stands first now ended.Memory ends = ends.rig.on
 
 -- ---- over a new volume
 
-module _ (mode kind : Mode) (options : Options) (is : mode ≡ kind) {owns : Contents → Type 0} {v : VolumeState} {old begun : State} (new : IsNewVolume (told_for kind options) owns v old begun)
+module _ (mode kind : Mode) (options : Options) (is : mode ≡ kind) {owns : Contents → Type 0} {owes : Contents → List BlockWrite → Type 0} {v : VolumeState} {old begun : State} (new : IsNewVolume (told_for kind options) owns owes v old begun)
     (u : Told) (stays : u ≡ v.told) (a z : SourceState) (x y : SinkState) (now : State) where
   same : v.told ≡ told_for mode options
   same = new.told ∙ ap (λ (m : Mode). told_for m options) (sym is)

@@ -15,7 +15,7 @@ use Rattle.trace_model.specs.declared.line.Line.TheVariants as line
 use Rattle.trace_model.specs.declared.line.LineError.{LineError}
 use Rattle.trace_model.specs.declared.ran.Ran.{Ran}
 use Rattle.trace_model.specs.Readings.{Reading}
-use Rattle.trace_model.specs.Run.{answers_of, disk_without, end_answers, end_of, own_answers, stopped}
+use Rattle.trace_model.specs.Run.{answers_of, disk_without, end_answers, end_of, lost_told, own_answers, stopped}
 use Rattle.trace_model.specs.SoFar.{AnswersTo, MayTell, as_ran, refusal_of}
 use Rattle.trace_replay.specs.Commands.{is_refusal, refusals_in}
 use Rattle.trace_replay.proofs.SayingLemmas.{left_empty}
@@ -25,6 +25,10 @@ use Rattle.trace_replay.proofs.SayingLemmas.{left_empty}
 pub none_stopped : (n : ℕ) → refusals_in (stopped n) ≡ []
 none_stopped zero = refl
 none_stopped (suc n) = none_stopped n
+
+pub none_lost : (n : ℕ) → refusals_in (lost_told n) ≡ []
+none_lost zero = refl
+none_lost (suc n) = refl
 
 none_read : (disk : PlainDisk) (addresses : List ℕ) → refusals_in (map (λ a. answer.ReadBack a (tag_in (disk a))) addresses) ≡ []
 none_read disk [] = refl
@@ -39,14 +43,16 @@ none_own (line.Cut outcome) cuts kept disk = refl
 none_own (line.Stop after outcome) cuts kept disk = refl
 none_own line.Nothing cuts kept disk = refl
 
-none_both : (xs ys : List Answer) → refusals_in xs ≡ [] → refusals_in ys ≡ [] → refusals_in (xs ++ ys) ≡ []
+pub none_both : (xs ys : List Answer) → refusals_in xs ≡ [] → refusals_in ys ≡ [] → refusals_in (xs ++ ys) ≡ []
 none_both xs ys first next = filter-append is_refusal xs ys ∙ ap (λ (r : List Answer). r ++ refusals_in ys) first ∙ next
 
 none_line : (ran : Ran) (disk : PlainDisk) → refusals_in (answers_of ran disk) ≡ []
-none_line ran disk = none_both (stopped ran.cuts) (own_answers ran.line ran.cuts ran.kept disk) (none_stopped ran.cuts) (none_own ran.line ran.cuts ran.kept disk)
+none_line ran disk =
+    none_both (stopped ran.cuts) (lost_told ran.lost ++ own_answers ran.line ran.cuts ran.kept disk) (none_stopped ran.cuts)
+    (none_both (lost_told ran.lost) (own_answers ran.line ran.cuts ran.kept disk) (none_lost ran.lost) (none_own ran.line ran.cuts ran.kept disk))
 
 none_end : (run : List Ran) (cuts lost : ℕ) → refusals_in (end_answers run cuts lost) ≡ []
-none_end run cuts lost = none_both (stopped cuts) (end_of lost run ∷ []) (none_stopped cuts) refl
+none_end run cuts lost = none_both (stopped cuts) (lost_told lost ++ end_of lost run ∷ []) (none_stopped cuts) (none_both (lost_told lost) (end_of lost run ∷ []) (none_lost lost) refl)
 
 -- ---- a front of what is due
 

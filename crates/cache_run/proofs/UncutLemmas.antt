@@ -1,4 +1,5 @@
 -- Lines of which no cut took a part: their plain disk is that after all of their block writes.
+use Rattle.std.specs.Prelude.{false}
 use Rattle.std.proofs.Common.{◌≡◌, ◌≤◌, ◌<◌, ◌⊎◌, inl, inr, ℕ, ◌+◌, min, List, [], ◌∷◌, ◌++◌, length, drop, refl, sym, ap, ◌∙◌, arith}
 use Rattle.std.proofs.Math.Nat.{lt_of_not-le}
 use Rattle.ft_base.specs.Count.{Rose, last_count}
@@ -9,7 +10,7 @@ use Rattle.trace_model.specs.declared.line.Line.{Line}
 use Rattle.trace_model.specs.declared.line.Line.TheVariants as line
 use Rattle.trace_model.specs.declared.ran.Ran.{Ran}
 use Rattle.trace_model.specs.Backs.{AreUncut, IsUncut}
-use Rattle.trace_model.specs.Fits.{FitsRun, FitsLine, armed_after, arming, block_count}
+use Rattle.trace_model.specs.Fits.{FitsRun, FitsLine, armed_after, arming, block_count, is_cut}
 use Rattle.trace_model.specs.Run.{after_line, cut_count, cuts_in, disk_after, lines_of}
 use Rattle.trace_model.proofs.RunLemmas.{disk_after-line}
 use Rattle.trace_replay.specs.Said.{RoseAtLeast}
@@ -29,11 +30,21 @@ line_whole ack (line.Cut outcome) cuts kept lost old disk fits none = refl
 line_whole ack (line.Stop after outcome) cuts kept lost old disk fits none = refl
 line_whole ack line.Nothing cuts kept lost old disk fits none = refl
 
+-- a line that doesn't cut power is no cut line
+not_cut : (l : Line) → cut_count l ≡ 0 → is_cut l ≡ false
+not_cut (line.Cut outcome) none = absurd (omega (arith, none))
+not_cut (line.Write lba count tag) none = refl
+not_cut (line.Read lba count) none = refl
+not_cut line.Flush none = refl
+not_cut line.Idle none = refl
+not_cut (line.Stop after outcome) none = refl
+not_cut line.Nothing none = refl
+
 pub disk_after-uncut : (ack : Ack) (run : List Ran) → FitsRun ack run → cuts_in run ≡ 0 → disk_after run ≡ disk_over (lines_of run) empty
 disk_after-uncut ack [] fits none = refl
 disk_after-uncut ack (ran ∷ earlier) fits none =
     let before : disk_after earlier ≡ disk_over (lines_of earlier) empty = disk_after-uncut ack earlier fits.1 (omega (arith, none)) in
-    disk_after-line ran earlier fits.0.lost
+    disk_after-line ran earlier (fits.0.cut (not_cut ran.line (omega (arith, none))) (omega (arith, none)))
     ∙ line_whole ack ran.line ran.cuts ran.kept ran.lost _ (disk_after earlier) fits.0.line (omega (arith, none))
     ∙ ap (λ (d : PlainDisk). after_line ran.line (block_count ran.line) d) before
     ∙ sym (disk_over-last (lines_of earlier) ran.line empty)
@@ -83,8 +94,11 @@ none_risen n old new risen stands =
     omega (arith, below, rose)
 
 -- in both cases there was no cut, neither of the lines nor after them
-pub uncut_none : (ack : Ack) (run : List Ran) (cuts old new : ℕ) → FitsRun ack run → cuts ≤ length (armed_after run) → RoseAtLeast (cuts_in run + cuts) old new → AreUncut run ⊎ (Rose old new → ⊥) → cuts_in run ≡ 0
-uncut_none ack run cuts old new fits few risen (inl uncut) = (uncut_lines ack run fits uncut).1
+pub uncut_none : (ack : Ack) (run : List Ran) (cuts old new : ℕ) → FitsRun ack run → cuts ≤ length (armed_after run) → RoseAtLeast (cuts_in run + cuts) old new → AreUncut run ⊎ (Rose old new → ⊥) → (cuts_in run ≡ 0) × (cuts ≡ 0)
+uncut_none ack run cuts old new fits few risen (inl uncut) =
+    let none = uncut_lines ack run fits uncut in
+    let long : length (armed_after run) ≡ 0 = ap length none.0 in
+    (none.1, omega (arith, long, few))
 uncut_none ack run cuts old new fits few risen (inr stands) =
     let none : cuts_in run + cuts ≡ 0 = none_risen (cuts_in run + cuts) old new risen stands in
-    omega (arith, none)
+    (omega (arith, none), omega (arith, none))

@@ -1,8 +1,8 @@
 -- What a run begins with.
-use Rattle.std.specs.Prelude.{◌≡◌, ◌⊎◌, ◌≤◌, ℕ, true, false, Result, OnErr, IsErrOf, []}
+use Rattle.std.specs.Prelude.{◌≡◌, ◌⊎◌, ◌≤◌, ℕ, true, false, List, Result, OnErr, IsErrOf, []}
 use Rattle.ft_base.specs.Contents.{Contents}
 use Rattle.ft_base.specs.Count.{Rose}
-use Rattle.ft_base.specs.PlainDisk.{empty}
+use Rattle.ft_base.specs.PlainDisk.{BlockWrite, empty}
 use Rattle.ft_base.specs.Told.{Told}
 use Rattle.ft_media.specs.Passes.{NeverFall}
 use Rattle.ft_media.specs.State.{State}
@@ -14,10 +14,13 @@ use Rattle.trace_replay.specs.declared.ended.Ended.{Ended}
 use Rattle.trace_replay.specs.declared.ended.Ended.TheVariants.{Flash, Disk, Memory}
 use Rattle.cache_run.specs.Fitted.{fitted_for}
 
--- a new volume of these options, which owns such contents: it is up, its cache is empty and no block waits to be
--- written back; a disk of zero blocks, on a rig that was fitted for it, with power on and nothing armed
-pub record IsNewVolume (o : Told) (owns : Contents → Type 0) (v : VolumeState) (old now : State) : Type 0 where
+-- a new volume of these options, which owns such contents and owes such writes: it is up, it owes nothing, its cache is
+-- empty and no block waits to be written back; a disk of zero blocks, on a rig that was fitted for it, with power on and
+-- nothing armed
+pub record IsNewVolume (o : Told) (owns : Contents → Type 0) (owes : Contents → List BlockWrite → Type 0) (v : VolumeState)
+    (old now : State) : Type 0 where
   pub left : owns now.contents
+  pub owed : owes now.contents []
   pub told : v.told ≡ o
   pub up : v.down ≡ false
   pub table : v.table ≡ []

@@ -7,7 +7,6 @@ use Rattle.ft_base.specs.StreamState.{SinkState}
 use Rattle.ft_base.specs.Told.{Told}
 use Rattle.ft_media.specs.declared.rig.Counts.{Counts}
 use Rattle.ft_media.specs.State.{State}
-use Rattle.trace_model.specs.declared.answer.Answer.{Answer}
 use Rattle.trace_model.specs.declared.ran.Ran.{Ran}
 use Rattle.trace_model.specs.Readings.{Reading}
 use Rattle.trace_model.specs.Run.{lines_of, told}

@@ -4,7 +4,8 @@ use Rattle.ft_base.specs.Told.{Told}
 use Rattle.ft_base.specs.declared.told.Ack.TheVariants.{Write}
 use Rattle.ft_base.specs.declared.told.Mode.TheVariants.{Back}
 
--- a volume that writes back, of these numbers; an idle step leaves half as many dirty groups alone as there may be
+-- a volume that writes back, of these numbers, each write of which is on the media when it answers; an idle step leaves
+-- half as many dirty groups alone as there may be
 pub record IsDefault (o : Told) : Type 0 where
   pub mode : o.mode ≡ Back
   pub ack : o.ack ≡ Write

@@ -1,9 +1,9 @@
 -- What inspect prints, and what it leaves.
 use Rattle.std.specs.Prelude.{◌≡◌, ◌≢◌, ◌⊎◌, ◌≤◌, ◌<◌, ◌++◌, ℕ, Bool, true, List, [], ◌∷◌, length, take, drop, codes, decimal, Option, Some, None, Result, Ok, Err}
 use Rattle.std.specs.Io.KnownBytes.{Appends}
-use Rattle.ft_base.specs.Contents.{Image}
+use Rattle.ft_base.specs.Contents.{Contents, Image}
 use Rattle.ft_base.specs.Count.{Rose}
-use Rattle.ft_base.specs.PlainDisk.{PlainDisk, empty}
+use Rattle.ft_base.specs.PlainDisk.{BlockWrite, PlainDisk, empty}
 use Rattle.ft_base.specs.StreamState.{SinkState}
 use Rattle.ft_base.specs.Told.{Told}
 use Rattle.ft_base.specs.declared.block.Page.{Page}
@@ -68,6 +68,16 @@ pub record PrintsFront (g : Geometry) (loads : (Place → Page) → Entries → 
   pub printed : Appends old.taken new.taken (take count (report_text report))
 
 -- ---- asking for a report
+
+-- a volume may be asked for a report now: it owns what is on the media and owes nothing, the media stand for some plain
+-- disk, and power is on
+pub record CanReport (owned : Contents → Type 0) (owes : Contents → List BlockWrite → Type 0) (stands : Image → PlainDisk → Type 0)
+    (now : State) : Type 0 where
+  pub owns : owned now.contents
+  pub nothing_owed : owes now.contents []
+  pub disk : PlainDisk
+  pub stood : StandFor stands now.contents disk
+  pub on : now.power.on ≡ true
 
 -- after so many cuts of it: power is on, the shape and what lies beneath stay, no block of the disk was read or
 -- written, no count fell, and of the stops those that cut it are gone, each of which was counted

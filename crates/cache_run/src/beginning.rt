@@ -23,14 +23,14 @@ fn fit_for<R: Rig>(alloc: Global, rig: &mut R, geometry: &Geometry) -> Result<()
     rig.fit(alloc, geometry.blocks(), geometry.p(), geometry.size())
 }
 
-/// Fits the rig and makes a volume on it that writes back: a disk of zero blocks.
+/// Fits the rig and makes a volume on it that writes back: a disk of zero blocks, which owes nothing.
 pub(crate) fn begin_back<R: Rig>(
     alloc: Global,
     rig: &mut R,
     options: &Options,
 ) -> Result<WriteBack, Ended>
-    ensures new { IfOk result (λ v. IsNewVolume (told_for Back options.now) (back.IsLeft v) (back.state_of v) (R.state rig.old)
-        (R.state rig.new)) }
+    ensures new { IfOk result (λ v. IsNewVolume (told_for Back options.now) (back.IsLeft v) (back.owes v) (back.state_of v)
+        (R.state rig.old) (R.state rig.new)) }
     ensures begins { Begins result (R.state rig.old) (R.state rig.new) }
 {
     let Ok(()) = fit_for(alloc, rig, &options.geometry) else {
@@ -42,14 +42,14 @@ pub(crate) fn begin_back<R: Rig>(
     }
 }
 
-/// Fits the rig and makes a volume on it that writes through: a disk of zero blocks.
+/// Fits the rig and makes a volume on it that writes through: a disk of zero blocks, which owes nothing.
 pub(crate) fn begin_through<R: Rig>(
     alloc: Global,
     rig: &mut R,
     options: &Options,
 ) -> Result<WriteThrough, Ended>
-    ensures new { IfOk result (λ v. IsNewVolume (told_for Through options.now) (through.IsLeft v) (through.state_of v) (R.state rig.old)
-        (R.state rig.new)) }
+    ensures new { IfOk result (λ v. IsNewVolume (told_for Through options.now) (through.IsLeft v) (through.owes v) (through.state_of v)
+        (R.state rig.old) (R.state rig.new)) }
     ensures begins { Begins result (R.state rig.old) (R.state rig.new) }
 {
     let Ok(()) = fit_for(alloc, rig, &options.geometry) else {

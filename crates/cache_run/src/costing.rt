@@ -138,7 +138,7 @@ fn cost_over<F: LineForm, I: Source, O: Sink, R: Rig, V: Volume<R>>(
     volume: &mut V,
 ) -> Result<(), Ended>
     requires owns { V.owns volume.old (R.state rig.old).contents }
-    requires fresh { IsAsMade V.stands (V.state volume.old) (R.state rig.old) }
+    requires fresh { IsAsMade (V.owes volume.old (R.state rig.old).contents) V.stands (V.state volume.old) (R.state rig.old) }
     ensures told { (V.state volume.new).told ≡ (V.state volume.old).told }
     ensures ends { EndsCost (V.state volume.old).told
         (ReadsBy (F.says (V.state volume.old).told.geometry.size) (I.state source.old) (I.state source.new))

@@ -65,7 +65,7 @@ fn count_over<R: Rig, V: Volume<R>>(
     requires uncut { All IsUncut lines.now }
     requires few { length lines.now < 2 ^ 64 }
     requires owns { V.owns volume.old (R.state rig.old).contents }
-    requires fresh { IsAsMade V.stands (V.state volume.old) (R.state rig.old) }
+    requires fresh { IsAsMade (V.owes volume.old (R.state rig.old).contents) V.stands (V.state volume.old) (R.state rig.old) }
     ensures counted { IfOk result (λ n. CountsFrom lines.now n (R.state rig.old) (R.state rig.new)) }
     ensures flash { IsErrOf result Ended.Flash → Rose (R.state rig.old).faults.flash (R.state rig.new).faults.flash }
     ensures disk { IsErrOf result Ended.Disk → Rose (R.state rig.old).faults.disk (R.state rig.new).faults.disk }

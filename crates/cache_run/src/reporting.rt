@@ -1,5 +1,5 @@
 //! A report of what is in the cache, asked for again after each cut, and its text.
-ghost use Rattle.std.specs.Prelude.{◌≡◌, ◌≢◌, ◌⊎◌, ◌<◌, ℕ, length, take, OnOk, OnErr, IfOk, IfErr, IfSome, IsErrOf};
+ghost use Rattle.std.specs.Prelude.{◌≡◌, ◌≢◌, ◌⊎◌, ◌<◌, ℕ, [], length, take, OnOk, OnErr, IfOk, IfErr, IfSome, IsErrOf};
 ghost use Rattle.std.specs.Io.KnownBytes.{Appends};
 ghost use Rattle.std.specs.Option.{OnSome};
 ghost use Rattle.std.specs.String.{string_bytes};
@@ -9,10 +9,9 @@ ghost use Rattle.ft_media.specs.Rig.{powered};
 ghost use Rattle.ft_volume.specs.Volume.{StaysOwner};
 ghost use Rattle.ft_volume.specs.declared.volume.VolumeError.TheVariants as volume_error;
 ghost use Rattle.trace_replay.specs.Causes.{EndHasCauseUntraced};
-ghost use Rattle.trace_replay.specs.MayRun.{CanCall};
 ghost use Rattle.trace_replay.specs.Said.{ended_of};
 ghost use Rattle.trace_replay.specs.Went.{Keeps};
-ghost use Rattle.cache_run.specs.Inspected.{Asks, IsReportOf, Prints, PrintsFront, PrintsReport, cuts_by, report_text};
+ghost use Rattle.cache_run.specs.Inspected.{Asks, CanReport, IsReportOf, Prints, PrintsFront, PrintsReport, cuts_by, report_text};
 
 use ft_base::{Sink, send};
 use ft_media::{Media, Rig};
@@ -38,10 +37,11 @@ fn power_again<R: Rig>(rig: &mut R, error: VolumeError) -> Result<(), Ended>
     }
 }
 
-/// Asks a volume for its report. Where a stop cut that, it gives none, and power is on again.
+/// Asks a volume that owes nothing for its report. If a stop cut that, it gives none, and power is on again.
 fn report_once<R: Rig, V: Volume<R>>(rig: &mut R, volume: &mut V) -> Result<Option<Report>, Ended>
-    requires can { CanCall (V.owns volume.old) (V.state volume.old).told (R.state rig.old) }
+    requires can { CanReport (V.owns volume.old) (V.owes volume.old) (V.stands (V.state volume.old).told) (R.state rig.old) }
     ensures owner { StaysOwner (V.owns volume.new) (R.state rig.new).contents (V.state volume.old) (V.state volume.new) }
+    ensures nothing_owed { V.owes volume.new (R.state rig.new).contents [] }
     ensures kept { Keeps (V.stands (V.state volume.old).told) (V.stands (V.state volume.new).told) (R.state rig.old).contents
         (R.state rig.new).contents }
     ensures asks { Asks (cuts_by result) (R.state rig.old) (R.state rig.new) }
@@ -61,13 +61,14 @@ fn report_once<R: Rig, V: Volume<R>>(rig: &mut R, volume: &mut V) -> Result<Opti
     }
 }
 
-/// Asks a volume for its report, again after each cut.
+/// Asks a volume that owes nothing for its report, again after each cut.
 pub(crate) fn report_through<R: Rig, V: Volume<R>>(
     rig: &mut R,
     volume: &mut V,
 ) -> Result<Report, Ended>
-    requires can { CanCall (V.owns volume.old) (V.state volume.old).told (R.state rig.old) }
+    requires can { CanReport (V.owns volume.old) (V.owes volume.old) (V.stands (V.state volume.old).told) (R.state rig.old) }
     ensures owner { StaysOwner (V.owns volume.new) (R.state rig.new).contents (V.state volume.old) (V.state volume.new) }
+    ensures nothing_owed { V.owes volume.new (R.state rig.new).contents [] }
     ensures kept { Keeps (V.stands (V.state volume.old).told) (V.stands (V.state volume.new).told) (R.state rig.old).contents
         (R.state rig.new).contents }
     ensures asks { (cuts : ℕ) × Asks cuts (R.state rig.old) (R.state rig.new)
@@ -127,7 +128,7 @@ pub(crate) fn tell_report<O: Sink, R: Rig, V: Volume<R>>(
     rig: &mut R,
     volume: &mut V,
 ) -> Result<(), Ended>
-    requires can { CanCall (V.owns volume.old) (V.state volume.old).told (R.state rig.old) }
+    requires can { CanReport (V.owns volume.old) (V.owes volume.old) (V.stands (V.state volume.old).told) (R.state rig.old) }
     ensures told { (V.state volume.new).told ≡ (V.state volume.old).told }
     ensures kept { Keeps (V.stands (V.state volume.old).told) (V.stands (V.state volume.new).told) (R.state rig.old).contents
         (R.state rig.new).contents }

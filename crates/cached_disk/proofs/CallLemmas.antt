@@ -1,30 +1,35 @@
 -- The effects of a call on a volume that is up.
-use Rattle.std.proofs.Common.{◌≡◌, ◌≢◌, ℕ, ◌+◌, ◌≤◌, Bool, true, false, cond, [], length, None, Result, Ok, Err, IfOk, OnOk, inl, inr, refl, sym, ◌∙◌, ap, subst, arith}
+use Rattle.std.proofs.Common.{◌≡◌, ◌≢◌, ℕ, ◌+◌, ◌≤◌, Bool, true, false, cond, List, [], ◌++◌, length, None, Result, Ok, Err, IfOk, OnOk, inl, inr, refl, sym, ◌∙◌, ap, subst, arith}
 use Rattle.std.proofs.lemmas.Bool.{both_ways, false≢true}
 use Rattle.ft_base.specs.declared.block.Block.{Block}
 use Rattle.ft_base.specs.Contents.{Contents, set}
 use Rattle.ft_base.specs.Count.{RoseBy, bumped}
-use Rattle.ft_base.specs.PlainDisk.{PlainDisk}
+use Rattle.ft_base.specs.PlainDisk.{BlockWrite, PlainDisk, after_writes}
 use Rattle.ft_base.specs.Table.{Table, backs_idled, goes_back, last_size, table_idled, without_last}
 use Rattle.ft_base.specs.Told.{Told}
 use Rattle.ft_media.specs.declared.rig.Counts.{Counts}
 use Rattle.ft_media.specs.State.{Faults, State}
 use Rattle.ft_media.specs.Drives.{DrivesFlash}
-use Rattle.ft_media.specs.Media.{program_counted, read_counted}
+use Rattle.ft_media.specs.Media.{read_counted}
 use Rattle.ft_media.specs.Reads.{ReadsFlash}
 use Rattle.ft_media.specs.Passes.{Passes}
 use Rattle.ft_media.proofs.PassesLemmas.{passes_then}
 use Rattle.ft_volume.specs.Opening.{ImageIs}
-use Rattle.ft_volume.specs.Volume.{AsksDevices, Call, Costs, Finds, FindsHeld, FindsRoom, Goes, HasCause, HoldsAfter, IsOwn, Reads, StaysUp, VolumeState, WasDone, WasOne, Writes, backs_of, flash_failed, flushes_of, misses, table_after, volume_lost, writes_of}
+use Rattle.ft_volume.specs.Volume.{AsksDevices, Call, Costs, Finds, BuffersInRoom, CommitsInRoom, DoneOwing, FindsHeld, Goes, HasCause, HoldsAfter, IsOwn, IsWriteIn, LeavesOwed, Reads, StaysUp, VolumeState, WasDone, WasOne, Writes, backs_of, flash_failed, flushes_of, misses, owing, table_after, volume_lost, writes_of}
 use Rattle.ft_volume.specs.Standing.{StandFor}
 use Rattle.ft_volume.specs.declared.volume.VolumeError.{VolumeError}
 use Rattle.ft_volume.specs.declared.volume.VolumeError.TheVariants as volume
 use Rattle.ft_volume.proofs.DoneLemmas.{answered_one, done_of_one, refused_one}
+use Rattle.ft_volume.proofs.OwedLemmas.{leaves_all}
 use Rattle.ft_volume.proofs.UpLemmas.{stays_same}
 use Rattle.ssc.specs.declared.error.SscError.{SscError}
 use Rattle.ssc.specs.declared.error.SscError.TheVariants.{Full, FlashFault, PowerLost, OutOfMemory}
 use Rattle.ssc.specs.Errors.{ssc_failed, ssc_lost, stops}
+use Rattle.std.proofs.lemmas.List.{append-nil}
 use Rattle.cached_disk.specs.Errors.{IsOfCache}
+use Rattle.std.proofs.lemmas.Result.{on_ok_weaker}
+use Rattle.cached_disk.specs.declared.disk.CachedDisk.{CachedDisk}
+use Rattle.cached_disk.specs.Kept.{KeepsOwed, Owes, Serves, is_down, state_in, told_of}
 
 -- ---- a call that changes no block
 
@@ -34,6 +39,65 @@ module _ (call : Call) (old new : VolumeState) (after : Contents) (d : PlainDisk
 
   pub refused_same : {T : Type 0} (e : VolumeError) → WasDone {T = T} ImageIs call old new after (Err e) d
   refused_same e = done_of_one ImageIs call old new after (Err e) d none none_new (refused_one (ImageIs new.told) call after e d stand) (λ up. stand)
+
+-- the same if writes are owed
+module _ {T : Type 0} (call : Call) (old new : VolumeState) (after : Contents) (owed left : List BlockWrite) (base : PlainDisk) (keeps : KeepsOwed new.told after new.down owed left base) where
+  pub answered_kept : (value : T) → writes_of call ≡ [] → new.down ≡ false → Finds call (after_writes owed base) → WasDone {T = T} ImageIs call (owing old owed) (owing new left) after (Ok value) base
+  answered_kept value nothing up found = elim keeps [
+    | inl same ↦ record {
+      images = λ x now. inl (same.1 x now);
+      lost = λ is. absurd (cc);
+      done = record { kept = 0; owes = same.0 ∙ sym (append-nil owed) ∙ sym (ap (λ (ws : List BlockWrite). owed ++ ws) nothing); media = same.1 };
+      found = found;
+      up = tt;
+      memory = λ is. absurd (cc);
+    }
+    | inr (inl all) ↦ record {
+      images = λ x now. inr (inl (all.1 x now));
+      lost = λ is. absurd (cc);
+      done = leaves_all (ImageIs new.told) after left (owed ++ writes_of call) base all.0 (subst (λ (ws : List BlockWrite). StandFor (ImageIs new.told) after (after_writes ws base)) (sym (append-nil owed) ∙ sym (ap (λ (ws : List BlockWrite). owed ++ ws) nothing)) all.1);
+      found = found;
+      up = tt;
+      memory = λ is. absurd (cc);
+    }
+    | inr (inr down) ↦ absurd (both_ways new.down up down.0)
+  ]
+
+  -- a call that failed, whichever it is
+  pub refused_kept : (e : VolumeError) → (e ≡ volume.OutOfMemory → new.down ≡ false) → WasDone {T = T} ImageIs call (owing old owed) (owing new left) after (Err e) base
+  refused_kept e memory = record {
+    images = λ x now. elim keeps [ inl same ↦ inl (same.1 x now) | inr (inl all) ↦ inr (inl (all.1 x now)) | inr (inr down) ↦ inl (down.2 x now) ];
+    lost = λ is. elim keeps [ inl same ↦ inl same.1 | inr (inl all) ↦ inr (inl all.1) | inr (inr down) ↦ inl down.2 ];
+    done = tt;
+    found = tt;
+    up = still;
+    memory = λ is. still (memory (let same : e ≡ volume.OutOfMemory = cc in same));
+  }
+    where
+      still : new.down ≡ false → LeavesOwed (ImageIs new.told) after left owed base
+      still up = elim keeps [
+        | inl same ↦ record { kept = 0; owes = same.0; media = same.1 }
+        | inr (inl all) ↦ leaves_all (ImageIs new.told) after left owed base all.0 all.1
+        | inr (inr down) ↦ absurd (both_ways new.down up down.0)
+      ]
+
+-- a call that wrote no block did this
+pub was_kept : {T : Type 0} (call : Call) (old new : VolumeState) (before after : State) (owed left : List BlockWrite) (base : PlainDisk) (r : Result T VolumeError) → KeepsOwed new.told after.contents new.down owed left base → writes_of call ≡ []
+    → OnOk r (Finds call (after_writes owed base)) → old.down ≡ false → Goes old new before after r → WasDone {T = T} ImageIs call (owing old owed) (owing new left) after.contents r base
+was_kept call old new before after owed left base (Ok value) keeps nothing found up goes = answered_kept call old new after.contents owed left base keeps value nothing goes.up found
+was_kept call old new before after owed left base (Err e) keeps nothing found up goes = refused_kept call old new after.contents owed left base keeps e (λ is. goes.memory (ap Err is) up)
+
+-- what a volume that is up did, by the list that it owed
+pub serves_was : {T : Type 0} (call : Call) (old new : CachedDisk) (order : List ℕ) (before after : State) (r : Result T VolumeError) → writes_of call ≡ [] → is_down old ≡ false → (serves : Serves call old new before after r) → (owed : List BlockWrite) (owes : Owes old before.contents owed) (base : PlainDisk)
+    → StandFor (ImageIs (told_of old)) before.contents base → WasDone ImageIs call (owing (state_in order old) owed) (owing (state_in order new) (serves.keeps owed owes).0) after.contents r base
+serves_was call old new order before after r nothing up serves owed owes base stand =
+    was_kept call (state_in order old) (state_in order new) before after owed (serves.keeps owed owes).0 base r
+    (subst (λ (t : Told). KeepsOwed t after.contents (is_down new) owed (serves.keeps owed owes).0 base) (sym (serves.goes order).told) ((serves.keeps owed owes).2 base stand))
+    nothing (on_ok_weaker r (λ found. found owed owes base stand) serves.found) up (serves.goes order)
+
+-- the address is outside of the volume
+pub outside_owing : {T : Type 0} (was : List BlockWrite → Type 0) (call : Call) (v : VolumeState) (contents : Contents) → DoneOwing {T = T} was was ImageIs call v v contents contents (Err volume.OutOfVolume)
+outside_owing was call v contents owed owes = (owed, owes, λ bases any. inr (record { fixes = refl; inside = λ not. absurd (not refl); images = any }))
 
 -- ---- a write
 
@@ -260,17 +324,17 @@ module _ (call : Call) (old new : VolumeState) where
 -- ---- the device calls of a call
 
 module _ {T : Type 0} (call : Call) (old new : VolumeState) (before after : State) (result : Result T VolumeError) where
-  no_room : (r : Result T VolumeError) → (FindsRoom call old → ⊥) → OnOk r (FindsRoom call old → after.counts ≡ program_counted (program_counted before.counts))
-  no_room (Ok value) none = λ room. absurd (none room)
-  no_room (Err e) none = tt
+  no_room : (R P : Type 0) (r : Result T VolumeError) → (R → ⊥) → OnOk r (R → P)
+  no_room R P (Ok value) none = λ room. absurd (none room)
+  no_room R P (Err e) none = tt
 
   -- neither a read of a held address nor a write that found room
-  pub asks_none : (FindsHeld call old → ⊥) → (FindsRoom call old → ⊥) → after.counts.disk_flushes ≤ before.counts.disk_flushes + flushes_of call old.told old.table → AsksDevices call old old new before after result
-  asks_none held room flushes = record { flushes = omega (arith, flushes); found = λ is. absurd (held is); two_programs = no_room result room }
+  pub asks_none : (FindsHeld call old → ⊥) → ((finds : Told → ℕ → VolumeState → Type 0) → IsWriteIn finds call old → ⊥) → after.counts.disk_flushes ≤ before.counts.disk_flushes + flushes_of call old.told old.table → AsksDevices call old old new before after result
+  asks_none held room flushes = record { flushes = omega (arith, flushes); found = λ is. absurd (held is); two_programs = no_room _ _ result (room CommitsInRoom); one_program = no_room _ _ result (room BuffersInRoom) }
 
 -- a read of an address that isn't held
 pub asks_missing : {T : Type 0} (lba : ℕ) (block : Block) (old new : VolumeState) (before after : State) (result : Result T VolumeError) → old.held lba ≡ false → after.counts.disk_flushes ≡ before.counts.disk_flushes → AsksDevices (Reads lba block) old old new before after result
-asks_missing lba block old new before after result absent same = asks_none (Reads lba block) old new before after result (λ is. both_ways (old.held lba) absent is.1) (λ room. room) (omega (arith, same))
+asks_missing lba block old new before after result absent same = asks_none (Reads lba block) old new before after result (λ is. both_ways (old.held lba) absent is.1) (λ finds room. room) (omega (arith, same))
 
 -- nothing follows if nothing finds room
 pub from_none : {T : Type 0} (P : Type 0) (r : Result T VolumeError) → OnOk r (⊥ → P)
@@ -283,6 +347,7 @@ asks_held {T = T} lba block old new before after result same reads = record {
   flushes = let is = ap (λ (x : Counts). x.disk_flushes) reads.counts in omega (arith, is);
   found = λ is. (same, reads);
   two_programs = from_none _ result;
+  one_program = from_none _ result;
 }
 
 -- the flash was read, and the volume says why the read failed

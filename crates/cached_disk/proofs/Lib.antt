@@ -4,6 +4,7 @@ pub mod CallLemmas
 pub mod AddressLemmas
 pub mod OpenLemmas
 pub mod HeldLemmas
+pub mod OwedLemmas
 pub mod OpenedLemmas
 pub mod ReadLemmas
 pub mod RefusedLemmas

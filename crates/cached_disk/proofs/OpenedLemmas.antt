@@ -41,7 +41,9 @@ use Rattle.cached_disk.specs.declared.disk.CachedDisk.{CachedDisk}
 use Rattle.cached_disk.specs.Errors.{IsOfOpening, disk_failed}
 use Rattle.cached_disk.specs.Kept.{IsBeneath, IsDirtyIn, IsFresh, IsHeld, IsLeft, IsOpenCache, IsOrderOf, IsVolume, Loads, Reopens, dirty_of, is_down, state_in, told_of, waiting_in}
 use Rattle.cached_disk.proofs.DiskLemmas.{agrees_fewer, any_left, one_left, one_value, over_stands}
-use Rattle.cached_disk.proofs.HeldLemmas.{held_at_write, down_left}
+use Rattle.cached_disk.proofs.HeldLemmas.{held_no_write, down_left}
+use Rattle.std.specs.List.{list_any}
+use Rattle.cache_model.specs.Cache.{is_write}
 use Rattle.cached_disk.proofs.ReadLemmas.{may_none}
 use Rattle.cached_disk.proofs.AddressLemmas.{holds_held, holds_lbas, holds_within, lbas_between, lbas_none}
 
@@ -57,7 +59,7 @@ module _ (v : CachedDisk) (old new : Contents) (s : CacheList) (cache : IsOpenCa
     beneath_now = record { flash = opens.lists s stands; agrees = agrees_fewer s old.disk new.disk opens.values agrees; suits = suits }
 
     held_now : IsHeld v new s
-    held_now = held_at_write v new s holds_now beneath_now.agrees (λ a. inl (alone_now a)) suits (may_none (told_of v) (pending v.cache) cache.nothing_waits)
+    held_now = held_no_write v new s (ap (list_any is_write) cache.nothing_waits) holds_now beneath_now.agrees (λ a. inl (alone_now a)) suits (may_none (told_of v) (pending v.cache) cache.nothing_waits)
 
     pub opened_left : FitsOn v.options.geometry new.shape → IsLeft v new
     opened_left shape = record { own = cache.geometry; shape = shape; list = s; beneath = beneath_now; held = s; up = λ up. held_now }

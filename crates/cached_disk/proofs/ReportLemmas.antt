@@ -7,7 +7,6 @@ use Rattle.std.proofs.lemmas.Bool.{false≢true}
 use Rattle.ft_base.specs.Contents.{Contents}
 use Rattle.ft_base.specs.Count.{RoseBy}
 use Rattle.ft_base.specs.Layout.{most_page_records}
-use Rattle.ft_base.specs.PlainDisk.{PlainDisk, BlockWrite}
 use Rattle.ft_base.specs.Told.{Told}
 use Rattle.ft_base.specs.declared.block.Page.{Page}
 use Rattle.ft_base.specs.declared.block.Place.{Place}
@@ -17,10 +16,8 @@ use Rattle.ft_media.specs.Passes.{Passes}
 use Rattle.ft_media.specs.Reads.{ReadsFlash}
 use Rattle.ft_media.specs.State.{State}
 use Rattle.ft_media.proofs.PassesLemmas.{passes_then}
-use Rattle.ft_volume.specs.Opening.{ImageIs}
-use Rattle.ft_volume.specs.Volume.{AsksDevices, Costs, Flushes, Goes, HasCause, IsAny, IsHeldBy, Reports, StaysUp, VolumeState, WasDone, stages, volume_lost}
+use Rattle.ft_volume.specs.Volume.{AsksDevices, Costs, Flushes, Goes, HasCause, IsHeldBy, Reports, StaysUp, VolumeState, volume_lost}
 use Rattle.ft_volume.specs.Reported.{IsReport}
-use Rattle.ft_volume.specs.Standing.{StandFor}
 use Rattle.ft_volume.specs.declared.options.Options.{Options}
 use Rattle.ft_volume.specs.declared.volume.Report.{Report}
 use Rattle.ft_volume.specs.declared.volume.VolumeError.{VolumeError}
@@ -47,17 +44,7 @@ use Rattle.cached_disk.proofs.CallLemmas.{from_none}
 use Rattle.cached_disk.specs.declared.disk.CachedDisk.{CachedDisk}
 use Rattle.cached_disk.specs.Kept.{IsLeft, Loads, is_down, told_of}
 
--- ---- the state after a flush
-
-three_same : {A : Type 0} (p : A → Type 0) (x : A) → IsAny p (x ∷ x ∷ x ∷ []) → p x
-three_same p x (inl is) = is
-three_same p x (inr (inl is)) = is
-three_same p x (inr (inr (inl is))) = is
-three_same p x (inr (inr (inr none))) = absurd none
-
--- the media still stand for the same plain disk, whatever the flush answers
-pub flushed_stands : {T : Type 0} (old new : VolumeState) (after : Contents) (result : Result T VolumeError) (base : PlainDisk) → old.owed ≡ [] → WasDone ImageIs Flushes old new after result base → StandFor (ImageIs new.told) after base
-flushed_stands old new after result base none was x now = three_same (ImageIs new.told x) base (subst (λ (ws : List BlockWrite). IsAny (ImageIs new.told x) (stages ws [] base)) none (was.images x now))
+-- ---- a flush that failed
 
 -- the error of another call
 module _ {S T : Type 0} (old new : VolumeState) (before after : State) (e : VolumeError) where
@@ -207,7 +194,7 @@ module _ {S : Type 0} (old mid new : VolumeState) (is : new ≡ mid) (before bet
 
   -- a flush asks for nothing more
   pub asks_read : {T : Type 0} (result : Result T VolumeError) → AsksDevices {T = S} Flushes old old mid before between (Ok value) → AsksDevices Reports old old new before after result
-  asks_read result asks = record { flushes = let most = asks.flushes in omega (arith, most, flushes_same); found = λ none. absurd none; two_programs = from_none _ result }
+  asks_read result asks = record { flushes = let most = asks.flushes in omega (arith, most, flushes_same); found = λ none. absurd none; two_programs = from_none _ result; one_program = from_none _ result }
 
 -- ---- if nothing is buffered, the flash has the cache's entries
 

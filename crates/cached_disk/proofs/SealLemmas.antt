@@ -7,14 +7,13 @@ use Rattle.ft_base.specs.declared.block.Page.{Page}
 use Rattle.ft_base.specs.declared.geometry.Geometry.{Geometry}
 use Rattle.ft_base.specs.Contents.{Contents, Image, Now, Shape, flushed}
 use Rattle.ft_base.specs.Layout.{log_pages}
-use Rattle.ft_media.specs.declared.rig.Counts.{Counts}
 use Rattle.ft_media.specs.Drives.{DrivesFlash}
 use Rattle.ft_media.specs.Fitted.{KeepsReady}
 use Rattle.ft_media.specs.Media.{flush_counted}
 use Rattle.ft_media.specs.Reads.{ReadsFlash}
 use Rattle.ft_media.specs.State.{Faults, State}
 use Rattle.ft_media.proofs.PassesLemmas.{passes_then}
-use Rattle.ft_volume.specs.Opening.{MayOpen, Opens}
+use Rattle.ft_volume.specs.Opening.{MayOpen}
 use Rattle.ft_volume.specs.Volume.{told_for}
 use Rattle.ft_base.specs.declared.told.Mode.{Mode}
 use Rattle.ft_volume.specs.declared.options.Options.{Options}
@@ -36,6 +35,9 @@ use Rattle.cached_disk.specs.Errors.{IsOpenRefusal, disk_failed}
 use Rattle.cached_disk.specs.Kept.{IsOpenCache, IsOpening, OnlyFlushed, OnlyOpens, WritesNothingRefused, is_down}
 use Rattle.cached_disk.specs.Opened.{LoadedSince, OpensDisk}
 use Rattle.cached_disk.proofs.OpenLemmas.{less_none, opens_after}
+use Rattle.std.specs.List.{list_any}
+use Rattle.cache_model.specs.Cache.{is_write}
+use Rattle.cached_disk.proofs.ReadLemmas.{owes_none}
 use Rattle.cached_disk.proofs.OpenedLemmas.{opened_fresh, opened_left, opened_stands}
 
 -- ---- the first step
@@ -177,8 +179,10 @@ sealed_opens v start after not_cut cache opening shape may =
     let some = stands_some start.contents.flash.page v.options.geometry (entries_of v.cache) cache.loads in
     let agrees = may some.0 some.1 in
     let up : is_down v ≡ false = (opened_fresh v start.contents after.contents some.0 cache opening.opens some.1 not_cut).up in
+    let left = opened_left v start.contents after.contents some.0 cache opening.opens some.1 agrees.0 agrees.1 (subst (λ (x : Shape). FitsOn v.options.geometry x) (sym opening.goes.passes.shape) shape) in
     record {
-      owns = opened_left v start.contents after.contents some.0 cache opening.opens some.1 agrees.0 agrees.1 (subst (λ (x : Shape). FitsOn v.options.geometry x) (sym opening.goes.passes.shape) shape);
+      owns = left;
+      owes = owes_none v after.contents (ap (list_any is_write) cache.nothing_waits) left;
       opened = record {
         opened = λ s stands. opened_fresh v start.contents after.contents s cache opening.opens stands not_cut;
         told = refl;

@@ -6,7 +6,7 @@ use Rattle.std.specs.Option.{is_some}
 use Rattle.ft_base.specs.Contents.{Contents, Values}
 use Rattle.ft_base.specs.Count.{RoseBy}
 use Rattle.ft_base.specs.Layout.{log_pages}
-use Rattle.ft_base.specs.PlainDisk.{PlainDisk}
+use Rattle.ft_base.specs.PlainDisk.{BlockWrite, PlainDisk, after_writes}
 use Rattle.ft_base.specs.Table.{Table, table_of}
 use Rattle.ft_base.specs.Told.{Told}
 use Rattle.ft_base.specs.declared.block.Page.{Page}
@@ -20,7 +20,7 @@ use Rattle.ft_media.specs.Media.{flush_counted}
 use Rattle.ft_media.specs.Passes.{Passes}
 use Rattle.ft_media.specs.State.{State}
 use Rattle.ft_volume.specs.Opening.{ImageIs, Opens, Suits}
-use Rattle.ft_volume.specs.Volume.{Call, Goes, HasCause, IsFixed, StandForAny, VolumeState, WasDone, dirty_lbas, fixes, opening_flushes, told_for, volume_lost}
+use Rattle.ft_volume.specs.Volume.{Call, Finds, Goes, HasCause, IsFixed, StandForAny, VolumeState, dirty_lbas, fixes, opening_flushes, told_for, volume_lost}
 use Rattle.ft_volume.specs.Standing.{StandFor}
 use Rattle.ft_volume.specs.declared.options.Options.{Options}
 use Rattle.ft_volume.specs.declared.volume.VolumeError.{VolumeError}
@@ -28,7 +28,7 @@ use Rattle.ft_volume.specs.declared.volume.VolumeError.TheVariants.{OutOfVolume}
 use Rattle.cache_model.specs.Loading.{load}
 use Rattle.cache_model.specs.Records.{Entries}
 pub use Rattle.ssc.specs.Commands.{IsDirtyIn}
-use Rattle.cache_model.specs.Cache.{Buffered, Cleaned, Inserted, Written, dirty_between, is_write, undo}
+use Rattle.cache_model.specs.Cache.{Buffered, Cleaned, Inserted, Written, dirty_between, is_write, owed_of, undo}
 use Rattle.cache_model.specs.CacheList.{Agrees, CacheList, vol}
 use Rattle.cache_model.specs.Stands.{FlashStandsFor}
 use Rattle.op_log.specs.Log.{FitsOn}
@@ -58,8 +58,7 @@ dirty_of v = dirty_lbas (entries_of v.cache)
 abbrev pub waiting_in : ℕ → List ℕ → List ℕ → Table
 waiting_in p order lbas = map (λ n. record { group = n; lbas = filter (λ a. a / p == n) lbas }) order
 
--- the state of the volume at this moment, with its dirty groups in this order. Each write is on the media when it
--- answers, so nothing is owed
+-- the state of the volume at this moment, with its dirty groups in this order, as if nothing were owed
 abbrev pub state_in : List ℕ → CachedDisk → VolumeState
 state_in order v = record {
   told = told_of v;
@@ -124,6 +123,30 @@ pub record MayServe (v : CachedDisk) (contents : Contents) : Type 0 where
   pub left : IsLeft v contents
   pub up : is_down v ≡ false
 
+-- ---- the writes that are owed
+
+-- none while the volume is down; else the writes that wait beside the list that the cache holds
+abbrev pub OwesIn : Bool → CachedDisk → Contents → List BlockWrite → Type 0
+OwesIn true v contents owed = owed ≡ []
+OwesIn false v contents owed = (s : CacheList) × (is : IsHeld v contents s) × (owed ≡ owed_of is.holds.waiting s)
+
+abbrev pub Owes : CachedDisk → Contents → List BlockWrite → Type 0
+Owes v contents owed = OwesIn (is_down v) v contents owed
+
+-- after a step that writes no block: the media stand for the same plain disk, and the same writes are owed; or the owed
+-- writes are on the media too; or the volume is down, and they are lost
+abbrev pub KeepsOwed : Told → Contents → Bool → List BlockWrite → List BlockWrite → PlainDisk → Type 0
+KeepsOwed told after down owed left base =
+    ((left ≡ owed) × StandFor (ImageIs told) after base)
+    ⊎ ((left ≡ []) × StandFor (ImageIs told) after (after_writes owed base))
+    ⊎ ((down ≡ true) × (left ≡ []) × StandFor (ImageIs told) after base)
+
+-- this holds whichever writes were owed
+abbrev pub StaysOwing : CachedDisk → CachedDisk → Contents → Contents → Type 0
+StaysOwing old new before after = (owed : List BlockWrite) → Owes old before owed
+    → (left : List BlockWrite) × Owes new after left × ((base : PlainDisk) → StandFor (ImageIs (told_of old)) before base
+    → KeepsOwed (told_of old) after (is_down new) owed left base)
+
 -- the plain disk of a list over a disk, below the size
 abbrev pub IsVolume : Geometry → CacheList → Contents → PlainDisk → Type 0
 IsVolume g s contents d = (a : ℕ) → a < g.size → vol s (λ lba. (contents.disk lba).newest) a ≡ d a
@@ -133,8 +156,9 @@ IsVolume g s contents d = (a : ℕ) → a < g.size → vol s (λ lba. (contents.
 -- a call that makes no block dirty or clean, and its effects, whatever it answers
 pub record Serves {T : Type 0} (call : Call) (old new : CachedDisk) (before after : State) (result : Result T VolumeError) : Type 0 where
   pub left : IsLeft new after.contents
-  pub was : (order : List ℕ) (base : PlainDisk) → StandFor (ImageIs (told_of old)) before.contents base
-      → WasDone ImageIs call (state_in order old) (state_in order new) after.contents result base
+  pub keeps : StaysOwing old new before.contents after.contents
+  pub found : OnOk result ((owed : List BlockWrite) → Owes old before.contents owed
+      → (base : PlainDisk) → StandFor (ImageIs (told_of old)) before.contents base → Finds call (after_writes owed base))
   pub goes : (order : List ℕ) → Goes (state_in order old) (state_in order new) before after result
   pub dirty : is_down new ≡ false → dirty_of new ≡ dirty_of old
   pub made : IsMadeAs old new

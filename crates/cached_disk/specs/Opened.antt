@@ -1,5 +1,5 @@
 -- The two steps of an opening: the load after a flush of the disk, and the effects of the whole opening.
-use Rattle.std.specs.Prelude.{◌≡◌, ℕ, Ok, Result, OnOk, IfOk}
+use Rattle.std.specs.Prelude.{◌≡◌, ℕ, [], Ok, Result, OnOk, IfOk}
 use Rattle.ft_base.specs.Contents.{flushed}
 use Rattle.ft_media.specs.State.{State}
 use Rattle.ft_base.specs.declared.geometry.Geometry.{Geometry}
@@ -13,7 +13,7 @@ use Rattle.ssc.specs.declared.opening.LoadedCache.{LoadedCache}
 use Rattle.ssc.specs.CacheState.{entries_of}
 use Rattle.ssc.specs.Opened.{IsLoadedFrom}
 use Rattle.cached_disk.specs.declared.disk.CachedDisk.{CachedDisk}
-use Rattle.cached_disk.specs.Kept.{IsFresh, IsLeft, IsOpening, OnlyFlushed, OnlyOpens, StandsOpened, WritesNothingRefused, is_down, told_of}
+use Rattle.cached_disk.specs.Kept.{IsFresh, IsLeft, IsOpening, OnlyFlushed, OnlyOpens, Owes, StandsOpened, WritesNothingRefused, is_down, told_of}
 
 -- since this start the disk was flushed and the flash was loaded, and nothing else was done
 pub record LoadedSince (g : Geometry) (start now : State) (c : LoadedCache) : Type 0 where
@@ -26,6 +26,7 @@ pub record LoadedSince (g : Geometry) (start now : State) (c : LoadedCache) : Ty
 -- all effects of an opening, from its start on
 pub record OpensDisk (mode : Mode) (options : Options) (start after : State) (result : Result CachedDisk OpenError) : Type 0 where
   pub owns : IfOk result (λ v. IsLeft v after.contents)
+  pub owes : IfOk result (λ v. Owes v after.contents [])
   pub opened : IfOk result (λ v. OpensOver (told_for mode options) start.contents.flash.page (λ s. IsFresh mode options s v) (told_of v)
       (is_down v) (entries_of v.cache))
   pub opening : IsOpening options.geometry start after result

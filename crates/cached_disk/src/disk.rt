@@ -1,14 +1,15 @@
-ghost use Rattle.std.specs.Prelude.{◌≡◌, List, true};
-ghost use Rattle.ft_base.specs.PlainDisk.{PlainDisk};
+ghost use Rattle.std.specs.Prelude.{◌≡◌, List, [], length, true};
+ghost use Rattle.ft_base.specs.Contents.{Contents};
+ghost use Rattle.ft_base.specs.PlainDisk.{BlockWrite, PlainDisk};
 ghost use Rattle.ft_media.specs.Rig.{CutThrough};
 ghost use Rattle.ft_volume.specs.Opening.{ImageIs};
 ghost use Rattle.ft_volume.specs.Volume.{StandForAny, StandForOneOf};
-ghost use Rattle.cached_disk.specs.Kept.{IsLeft, told_of};
+ghost use Rattle.cached_disk.specs.Kept.{IsLeft, Owes, told_of};
 ghost use Rattle.cached_disk.specs.Kept as kept;
 
 use ft_base::Outcome;
 use ft_media::{Media, Rig};
-use ft_volume::{Mode, Options};
+use ft_volume::{Ack, Mode, Options};
 use ssc::Ssc;
 use std::alloc::Global;
 
@@ -37,11 +38,32 @@ impl CachedDisk {
         self.down || self.cache.is_stopped()
     }
 
+    /// When a write is on the media.
+    pub fn ack(&self) -> Ack
+        ensures { result ≡ (told_of self.now).ack }
+    {
+        match self.mode {
+            Mode::Back => self.options.ack,
+            Mode::Through => Ack::Write,
+        }
+    }
+
+    /// How many writes are owed.
+    pub fn owed(&self) -> u32
+        ensures { (contents : Contents) (owed : List BlockWrite) → Owes self.now contents owed → result ≡ length owed }
+    {
+        if self.is_down() {
+            return 0;
+        }
+        self.cache.later()
+    }
+
     /// Turns power off between two device writes, and on again.
     pub fn cut<R: Rig>(&mut self, rig: &mut R, outcome: Outcome)
         requires { IsLeft self.old (R.state rig.old).contents }
         ensures left { IsLeft self.new (R.state rig.new).contents }
         ensures same { self.new ≡ record self.old { down = true } }
+        ensures owes { Owes self.new (R.state rig.new).contents [] }
         ensures disk { (bases : List PlainDisk) → StandForAny (ImageIs (told_of self.old)) (R.state rig.old).contents bases
             → StandForOneOf (ImageIs (told_of self.old)) (R.state rig.new).contents bases }
         ensures through { CutThrough (R.state rig.old) (R.state rig.new) outcome }

@@ -1,11 +1,12 @@
-ghost use Rattle.std.specs.Prelude.{◌≡◌, OnOk, IfOk, IfErr};
+ghost use Rattle.std.specs.Prelude.{◌≡◌, List, [], OnOk, IfOk, IfErr};
+ghost use Rattle.ft_base.specs.PlainDisk.{BlockWrite};
 ghost use Rattle.ft_media.specs.State.{State};
 ghost use Rattle.ft_volume.specs.Opening.{Creates, MayOpen, OpensOver, nothing_held};
 ghost use Rattle.ft_volume.specs.Volume.{told_for};
 ghost use Rattle.op_log.specs.Log.{FitsOn};
 ghost use Rattle.op_log.specs.Refusals.{IsOfFlash};
 ghost use Rattle.ssc.specs.CacheState.{entries_of};
-ghost use Rattle.cached_disk.specs.Kept.{IsFresh, IsLeft, IsOpenCache, IsOpening, Reopens, StandsOpened, WritesNothingRefused, is_down, told_of};
+ghost use Rattle.cached_disk.specs.Kept.{IsFresh, IsLeft, IsOpenCache, IsOpening, Owes, Reopens, StandsOpened, WritesNothingRefused, is_down, told_of};
 ghost use Rattle.cached_disk.specs.Opened.{LoadedSince, OpensDisk};
 
 use crate::CachedDisk;
@@ -41,6 +42,7 @@ impl CachedDisk {
     ) -> Result<CachedDisk, VolumeError>
         requires shape { FitsOn options.now.geometry (M.state media.old).contents.shape }
         ensures owns { IfOk result (λ v. IsLeft v (M.state media.new).contents) }
+        ensures owes { IfOk result (λ v. Owes v (M.state media.new).contents []) }
         ensures opened { IfOk result (λ v. IsFresh mode options.now nothing_held v) }
         ensures creates { Creates (told_for mode options.now) (M.state media.old) (M.state media.new) result }
     {
@@ -70,6 +72,7 @@ impl CachedDisk {
         requires shape { FitsOn options.now.geometry (M.state media.old).contents.shape }
         requires agrees { MayOpen (told_for mode options.now) (M.state media.old).contents }
         ensures owns { IfOk result (λ v. IsLeft v (M.state media.new).contents) }
+        ensures owes { IfOk result (λ v. Owes v (M.state media.new).contents []) }
         ensures opened { IfOk result (λ v. OpensOver (told_for mode options.now) (M.state media.old).contents.flash.page
             (λ s. IsFresh mode options.now s v) (told_of v) (is_down v) (entries_of v.cache)) }
         ensures opening { IsOpening options.now.geometry (M.state media.old) (M.state media.new) result }
@@ -85,6 +88,8 @@ impl CachedDisk {
         requires { IsLeft self.old (M.state media.old).contents }
         ensures left { IsLeft self.new (M.state media.new).contents }
         ensures reopens { Reopens self.old self.new (M.state media.old) (M.state media.new) result }
+        ensures owes { (owed : List BlockWrite) → Owes self.old (M.state media.old).contents owed
+            → Owes self.new (M.state media.new).contents owed }
     {
         if !self.is_down() {
             return Ok(());

@@ -6,7 +6,7 @@ ghost use Rattle.ft_base.specs.Table.{goes_back};
 ghost use Rattle.ft_volume.specs.Volume.{AsksDevices, Costs, Flushes, Idles, IsCheckpointed, Reports};
 ghost use Rattle.ft_volume.specs.Reported.{IsReport};
 ghost use Rattle.ssc.specs.CacheState.{entries_of, log_room, pending};
-ghost use Rattle.cached_disk.specs.Kept.{Loads, MayServe, Serves, state_in, told_of};
+ghost use Rattle.cached_disk.specs.Kept.{AsksNoDisk, Loads, MayServe, Serves, state_in, told_of};
 ghost use Rattle.cached_disk.specs.Kept as kept;
 
 use crate::CachedDisk;
@@ -25,6 +25,8 @@ impl CachedDisk {
             (M.state media.old) (M.state media.new) result }
         ensures held { OnOk result ((a : ℕ) → is_some (get (entries_of self.new.cache) a) ≡ is_some (get (entries_of self.old.cache) a)) }
         ensures nothing_waits { OnOk result (pending self.new.cache ≡ []) }
+        ensures no_disk { AsksNoDisk (M.state media.old) (M.state media.new) }
+        ensures ready { self.new.cache.ready ≡ self.old.cache.ready }
         ensures refused { OnErr result (kept.is_down self.new ≡ true) }
         ensures memory { IsErrOf result VolumeError.OutOfMemory → ⊥ }
     {

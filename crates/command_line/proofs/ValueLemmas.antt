@@ -11,12 +11,14 @@ use Rattle.ft_base.specs.Ranges.{InRange, first_out, is_within}
 use Rattle.ft_base.specs.Told.{Told}
 use Rattle.ft_base.specs.declared.geometry.Geometry.{Geometry}
 use Rattle.ft_base.specs.declared.geometry.GeometryError.{GeometryError}
+use Rattle.ft_base.specs.declared.told.Ack.{Ack}
+use Rattle.ft_base.specs.declared.told.Ack.TheVariants.{Write, Flush}
 use Rattle.ft_base.specs.declared.told.Mode.{Mode}
 use Rattle.ft_base.specs.declared.told.Mode.TheVariants.{Back, Through}
 use Rattle.ft_base.specs.declared.power.Outcome.{Outcome}
 use Rattle.ft_base.specs.declared.power.Outcome.TheVariants.{Blank, Whole, Torn, Mixed}
 use Rattle.std.specs.List.{list_all}
-use Rattle.command_line.specs.Command.{AreNumbers, IsCommand, IsCost, IsCount, IsDirty, IsGen, IsGiven, IsInspect, IsReadOf, IsReplay, IsRunOf, IsSweep, Say, SayMade, Setting, Spells, Text, form_word, gen_names, mode_word, option_names, outcome_word, replay_names, sweep_names, value_in}
+use Rattle.command_line.specs.Command.{AreNumbers, IsCommand, IsCost, IsCount, IsDirty, IsGen, IsGiven, IsInspect, IsReadOf, IsReplay, IsRunOf, IsSweep, Say, SayMade, Setting, Spells, Text, ack_word, form_word, gen_names, mode_word, option_names, outcome_word, replay_names, sweep_names, value_in}
 use Rattle.command_line.specs.declared.command.TraceForm.{TraceForm}
 use Rattle.command_line.specs.declared.command.TraceForm.TheVariants.{Lines, Msr}
 use Rattle.command_line.specs.Matching.{is_name}
@@ -35,6 +37,10 @@ pub narrowed_none : {E : Type 0} (default : ℕ) (word : Option Text) (m : ℕ) 
 narrowed_none default word m (Ok x) small given fits = tt
 narrowed_none default word m (Err e) small given fits = λ n n_small other. fits (let same = same_number default word m n small (omega arith) given other in omega arith)
 
+-- words with different bytes
+pub differ : (one other : Text) → bytes_eq one other ≡ false → one ≡ other → ⊥
+differ one other not is = both_ways (bytes_eq one other) not ((bytes_eq-Decides one other).1 is)
+
 back_through : codes "back" ≡ codes "through" → ⊥
 back_through is = both_ways (bytes_eq (codes "back") (codes "through")) refl ((bytes_eq-Decides (codes "back") (codes "through")).1 is)
 
@@ -47,6 +53,16 @@ same_word Through Through is = refl
 same_mode : (word : Option Text) (m n : Mode) → IsGiven mode_word Back word m → IsGiven mode_word Back word n → m ≡ n
 same_mode None m n given other = given ∙ sym other
 same_mode (Some word) m n given other = same_word m n (sym given ∙ other)
+
+same_ack_word : (a b : Ack) → ack_word a ≡ ack_word b → a ≡ b
+same_ack_word Write Write is = refl
+same_ack_word Write Flush is = absurd (differ (codes "write") (codes "flush") refl is)
+same_ack_word Flush Write is = absurd (differ (codes "flush") (codes "write") refl is)
+same_ack_word Flush Flush is = refl
+
+same_ack : (word : Option Text) (a b : Ack) → IsGiven ack_word Write word a → IsGiven ack_word Write word b → a ≡ b
+same_ack None a b given other = given ∙ sym other
+same_ack (Some word) a b given other = same_ack_word a b (sym given ∙ other)
 
 -- ---- one geometry
 
@@ -121,8 +137,8 @@ same_said : (value : Text → Option Text) (o other : Told) → Say value o → 
 same_said value o other says also =
     let geometry = same_numbers value o.geometry other.geometry says.numbers also.numbers in
     let dirty = same_dirty value o.geometry.c other.geometry.c o.dirty other.dirty (ap (λ (g : Geometry). g.c) geometry) (omega arith) says.dirty also.dirty in
-    let mode = same_mode (value (codes "mode")) o.mode other.mode says.mode also.mode in
-    let ack = says.ack ∙ sym also.ack in
+    let mode = same_mode (value (codes "mode")) o.mode other.mode says.writes.mode also.writes.mode in
+    let ack = same_ack (value (codes "ack")) o.ack other.ack says.writes.ack also.writes.ack in
     λ i. record { geometry = geometry i; dirty = dirty i; mode = mode i; ack = ack i }
 
 pub say_along : (value other : Text → Option Text) (o : Told) → ((name : Text) → value name ≡ other name) → Say value o → Say other o
@@ -194,10 +210,6 @@ same_gen words o other m n lines others gen also =
 
 pub first_word : (word text name : Text) (equal : Bool) → text ≡ word → equal ≡ bytes_eq text name → equal ≡ true → word ≡ name
 first_word word text name equal same is holds = sym same ∙ (bytes_eq-Decides text name).0 (sym is ∙ holds)
-
--- words with different bytes
-pub differ : (one other : Text) → bytes_eq one other ≡ false → one ≡ other → ⊥
-differ one other not is = both_ways (bytes_eq one other) not ((bytes_eq-Decides one other).1 is)
 
 pub apart : (words : List Text) (o other : Told) (number count : ℕ) → IsCommand words o → IsGen words other number count → ⊥
 apart words o other number count command gen = differ (codes "replay") (codes "gen") refl (cc (command.1.first, gen.first))

@@ -5,7 +5,8 @@ use Rattle.ft_base.specs.Told.{Told}
 use Rattle.ft_base.specs.declared.geometry.Geometry.{Geometry}
 use Rattle.ft_base.specs.declared.power.Outcome.{Outcome}
 use Rattle.ft_base.specs.declared.power.Outcome.TheVariants.{Blank, Whole, Torn, Mixed}
-use Rattle.ft_base.specs.declared.told.Ack.TheVariants.{Write}
+use Rattle.ft_base.specs.declared.told.Ack.{Ack}
+use Rattle.ft_base.specs.declared.told.Ack.TheVariants.{Write, Flush}
 use Rattle.ft_base.specs.declared.told.Mode.{Mode}
 use Rattle.ft_base.specs.declared.told.Mode.TheVariants.{Back, Through}
 use Rattle.command_line.specs.declared.command.TraceForm.{TraceForm}
@@ -25,7 +26,7 @@ Text = List ℕ
 -- the options of a run
 abbrev pub option_names : List Text
 option_names = codes "mode" ∷ codes "pages" ∷ codes "data" ∷ codes "log" ∷ codes "journal" ∷ codes "size" ∷ codes "dirty"
-    ∷ codes "flash" ∷ codes "parity" ∷ []
+    ∷ codes "ack" ∷ codes "flash" ∷ codes "parity" ∷ []
 
 -- the options of a replay
 abbrev pub replay_names : List Text
@@ -95,6 +96,11 @@ abbrev pub mode_word : Mode → Text
 mode_word Back = codes "back"
 mode_word Through = codes "through"
 
+-- how it is spelled when a write is on the media
+abbrev pub ack_word : Ack → Text
+ack_word Write = codes "write"
+ack_word Flush = codes "flush"
+
 -- how it is spelled what a power cut leaves
 abbrev pub outcome_word : Outcome → Text
 outcome_word Blank = codes "blank"
@@ -136,12 +142,18 @@ pub record IsDirty (value : Text → Option Text) (data_blocks dirty : ℕ) : Ty
   pub low : 1 ≤ dirty
   pub high : dirty ≤ data_blocks
 
--- what the values say of the volume, over some devices; each write is on the media when it answers
+-- what the values say of a write: to which place it goes, and when it is on the media. If it is there only when the next
+-- flush answers, the volume writes back
+pub record IsWriting (value : Text → Option Text) (m : Mode) (a : Ack) : Type 0 where
+  pub mode : IsGiven mode_word Back (value (codes "mode")) m
+  pub ack : IsGiven ack_word Write (value (codes "ack")) a
+  pub later : a ≡ Flush → m ≡ Back
+
+-- what the values say of the volume, over some devices
 pub record Say (value : Text → Option Text) (o : Told) : Type 0 where
-  pub mode : IsGiven mode_word Back (value (codes "mode")) o.mode
+  pub writes : IsWriting value o.mode o.ack
   pub numbers : AreNumbers value o.geometry
   pub dirty : IsDirty value o.geometry.c o.dirty
-  pub ack : o.ack ≡ Write
   pub devices : Devices
   pub over : SayDevices value devices
 

@@ -79,7 +79,7 @@ pub enum Command {
 /// The first word is `replay`, `gen`, `inspect`, `cost` or `sweep`. After it come options in any order, each at most once, as
 /// `--name value` or `--name=value`. A value in a word by itself doesn't begin with `-`. A number is `0`, or
 /// decimal digits of which the first isn't 0. Every other word is refused, also `--` and flags for help or a
-/// version.
+/// version. No volume has both `--mode through` and `--ack flush`.
 ///
 /// | Option | Value | Default |
 /// |---|---|---|
@@ -90,6 +90,7 @@ pub enum Command {
 /// | `--journal` | erase blocks of a log region, 1 to 16 | 2 |
 /// | `--size` | blocks of the volume, 1 to 2^40 | 1,048,576 |
 /// | `--dirty` | dirty groups that an idle step leaves alone, 1 to the data blocks | half of these, rounded up |
+/// | `--ack` | when a write is on the media: when it answers, `write`, or when the next flush answers, `flush` | `write` |
 /// | `--flash` | whether flash tells which of its pages are torn, `plain`, or gives their bytes alone, `raw` | `plain` |
 /// | `--parity` | whether an erase block has a page of parity: `off` or `on` | `off` |
 /// | `--form`, of `replay` and `cost` alone | form of the trace's lines: `lines` or `msr` | `lines` |

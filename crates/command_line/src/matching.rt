@@ -10,24 +10,24 @@ use clap::{Arg, ArgAction, ArgMatches, Command};
 use std::alloc::{AllocError, Global};
 
 /// The options of a run.
-static RUN_NAMES: [&str; 9] = [
-    "mode", "pages", "data", "log", "journal", "size", "dirty", "flash", "parity",
+static RUN_NAMES: [&str; 10] = [
+    "mode", "pages", "data", "log", "journal", "size", "dirty", "ack", "flash", "parity",
 ];
 
 /// The options of a replay.
-static REPLAY_NAMES: [&str; 10] = [
-    "mode", "pages", "data", "log", "journal", "size", "dirty", "flash", "parity", "form",
+static REPLAY_NAMES: [&str; 11] = [
+    "mode", "pages", "data", "log", "journal", "size", "dirty", "ack", "flash", "parity", "form",
 ];
 
 /// The options of a made trace.
-static GEN_NAMES: [&str; 11] = [
-    "mode", "pages", "data", "log", "journal", "size", "dirty", "flash", "parity", "number",
+static GEN_NAMES: [&str; 12] = [
+    "mode", "pages", "data", "log", "journal", "size", "dirty", "ack", "flash", "parity", "number",
     "count",
 ];
 
 /// The options of a sweep.
-static SWEEP_NAMES: [&str; 10] = [
-    "mode", "pages", "data", "log", "journal", "size", "dirty", "flash", "parity", "outcome",
+static SWEEP_NAMES: [&str; 11] = [
+    "mode", "pages", "data", "log", "journal", "size", "dirty", "ack", "flash", "parity", "outcome",
 ];
 
 /// An option of this name, which takes a value.

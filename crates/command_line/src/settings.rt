@@ -1,12 +1,14 @@
-ghost use Rattle.std.specs.Prelude.{◌≡◌, ◌<◌, ◌≤◌, ◌^◌, ℕ, IfSome, IfNone, codes, decimal};
+ghost use Rattle.std.specs.Prelude.{◌≡◌, ◌<◌, ◌≤◌, ◌^◌, ◌↔◌, ℕ, IsTrue, IfSome, IfNone, codes, decimal};
 ghost use Rattle.ft_base.specs.Told.{Told};
 ghost use Rattle.ft_base.specs.declared.geometry.Geometry.{Geometry};
 ghost use Rattle.ft_base.specs.declared.power.Outcome.{Outcome};
 ghost use Rattle.ft_base.specs.declared.power.Outcome.TheVariants.{Torn};
+ghost use Rattle.ft_base.specs.declared.told.Ack.{Ack};
+ghost use Rattle.ft_base.specs.declared.told.Ack.TheVariants.{Flush, Write};
 ghost use Rattle.ft_base.specs.declared.told.Mode.{Mode};
 ghost use Rattle.ft_base.specs.declared.told.Mode.TheVariants.{Back};
 ghost use Rattle.ft_volume.specs.Volume.{told_for};
-ghost use Rattle.command_line.specs.Command.{AreNumbers, IsCount, IsDirty, IsGiven, Say, SayDevices, SayMade, flash_word, form_word, mode_word, outcome_word, parity_word};
+ghost use Rattle.command_line.specs.Command.{AreNumbers, IsCount, IsDirty, IsGiven, IsWriting, Say, SayDevices, SayMade, ack_word, flash_word, form_word, mode_word, outcome_word, parity_word};
 ghost use Rattle.command_line.specs.Matching.{value_of};
 ghost use Rattle.command_line.specs.declared.command.TraceForm.{TraceForm};
 ghost use Rattle.command_line.specs.declared.command.TraceForm.TheVariants.{Lines};
@@ -21,7 +23,7 @@ use crate::devices::{Devices, FlashKind, Parity};
 use crate::matching::value;
 use crate::number::number_of;
 use clap::ArgMatches;
-use ft_base::{Geometry, Outcome};
+use ft_base::{Ack, Geometry, Outcome};
 use ft_volume::{Mode, Options};
 
 /// The number of the option of this name, or the default where it is not given.
@@ -70,8 +72,9 @@ fn dirty_of(matches: &ArgMatches<'_>, data_blocks: u32) -> Option<u32>
     Some(dirty)
 }
 
-/// What the volume is made with.
-fn options_of(matches: &ArgMatches<'_>) -> Option<Options>
+/// What the volume is made with, if its writes are on the media at this time.
+fn options_of(matches: &ArgMatches<'_>, ack: Ack) -> Option<Options>
+    ensures ack { IfSome result (λ it. it.ack ≡ ack) }
     ensures some { IfSome result (λ it. AreNumbers (value_of matches.now) it.geometry
         × IsDirty (value_of matches.now) it.geometry.c it.dirty) }
     ensures none { IfNone result ((g : Geometry) (dirty : ℕ) → AreNumbers (value_of matches.now) g
@@ -79,7 +82,11 @@ fn options_of(matches: &ArgMatches<'_>) -> Option<Options>
 {
     let geometry = geometry_of(matches)?;
     let dirty = dirty_of(matches, geometry.c)?;
-    Some(Options { geometry, dirty })
+    Some(Options {
+        geometry,
+        dirty,
+        ack,
+    })
 }
 
 /// The mode of which this is the word.
@@ -105,6 +112,57 @@ fn mode_of(matches: &ArgMatches<'_>) -> Option<Mode>
         Some(word) => mode_named(word),
         None => Some(Mode::Back),
     }
+}
+
+/// When a write is on the media, by this word.
+fn ack_named(word: &str) -> Option<Ack>
+    ensures some { IfSome result (λ a. word.now ≡ ack_word a) }
+    ensures none { IfNone result ((a : Ack) → word.now ≡ ack_word a → ⊥) }
+{
+    if word == "write" {
+        return Some(Ack::Write);
+    }
+    if word == "flush" {
+        return Some(Ack::Flush);
+    }
+    None
+}
+
+/// When a write is on the media: the word that is given, or when the write answers.
+fn ack_of(matches: &ArgMatches<'_>) -> Option<Ack>
+    ensures some { IfSome result (IsGiven ack_word Write (value_of matches.now (codes "ack"))) }
+    ensures none { IfNone result ((a : Ack) → IsGiven ack_word Write (value_of matches.now (codes "ack")) a → ⊥) }
+{
+    match value(matches, "ack") {
+        Some(word) => ack_named(word),
+        None => Some(Ack::Write),
+    }
+}
+
+/// Whether a volume of this mode can have its writes on the media at this time.
+fn is_offered(mode: Mode, ack: Ack) -> bool
+    ensures { IsTrue result ↔ (ack ≡ Flush → mode ≡ Back) }
+{
+    match mode {
+        Mode::Back => true,
+        Mode::Through => match ack {
+            Ack::Write => true,
+            Ack::Flush => false,
+        },
+    }
+}
+
+/// The mode, and when a write is on the media; or None if no volume has both.
+fn writing_of(matches: &ArgMatches<'_>) -> Option<(Mode, Ack)>
+    ensures some { IfSome result (λ it. IsWriting (value_of matches.now) it.0 it.1) }
+    ensures none { IfNone result ((m : Mode) (a : Ack) → IsWriting (value_of matches.now) m a → ⊥) }
+{
+    let mode = mode_of(matches)?;
+    let ack = ack_of(matches)?;
+    if !is_offered(mode, ack) {
+        return None;
+    }
+    Some((mode, ack))
 }
 
 /// The kind of flash of which this is the word.
@@ -172,8 +230,8 @@ pub(crate) fn volume_of(matches: &ArgMatches<'_>) -> Option<(Mode, Options, Devi
     ensures some { IfSome result (λ it. Say (value_of matches.now) (told_for it.0 it.1) × SayDevices (value_of matches.now) it.2) }
     ensures none { IfNone result ((o : Told) → Say (value_of matches.now) o → ⊥) }
 {
-    let mode = mode_of(matches)?;
-    let options = options_of(matches)?;
+    let (mode, ack) = writing_of(matches)?;
+    let options = options_of(matches, ack)?;
     let devices = devices_of(matches)?;
     Some((mode, options, devices))
 }

@@ -3,7 +3,7 @@
 use mem_rig::MemRig;
 use rand_core::SeedableRng;
 use rand_pcg::Lcg64Xsh32;
-use small_runs::{Outcome, Shape, THROUGH, back, run, run_on, shape_of};
+use small_runs::{Manner, Outcome, Shape, THROUGH, back, run, run_on, shape_of};
 use std::alloc::{AllocError, Global};
 use std::process::Abort;
 use std::test::Fail;
@@ -69,20 +69,20 @@ fn fail_each(rt: &impl Abort, alloc: Global, shape: &Shape, device: Device) -> R
 fn fail_each_of_two(
     rt: &impl Abort,
     alloc: Global,
-    through: bool,
+    manner: Manner,
     device: Device,
 ) -> Result<u64, Fail> {
     let mut words = Lcg64Xsh32::seed_from_u64(7);
-    let first = fail_each(rt, alloc, &shape_of(&mut words, through), device)?;
-    let second = fail_each(rt, alloc, &shape_of(&mut words, through), device)?;
+    let first = fail_each(rt, alloc, &shape_of(&mut words, manner), device)?;
+    let second = fail_each(rt, alloc, &shape_of(&mut words, manner), device)?;
     Ok(first.min(second))
 }
 
 // One call of the flash reads a block for its line, and a later one reads the block for the end line.
 #[test]
 fn each_call_of_the_flash_that_fails_ends_the_run(rt: HostRuntime) -> Result<(), Fail> {
-    for through in [false, true] {
-        let failed = fail_each_of_two(&rt, rt.alloc(), through, Device::Flash)?;
+    for manner in [Manner::Back, Manner::BackAtFlush, Manner::Through] {
+        let failed = fail_each_of_two(&rt, rt.alloc(), manner, Device::Flash)?;
         assert!(rt; failed > 30 && failed < CALLS - 1);
     }
     Ok(())
@@ -92,8 +92,13 @@ fn each_call_of_the_flash_that_fails_ends_the_run(rt: HostRuntime) -> Result<(),
 // is written through adds a block write and a flush.
 #[test]
 fn each_call_of_the_disk_that_fails_ends_the_run(rt: HostRuntime) -> Result<(), Fail> {
-    for (through, least) in [(false, 3), (true, 15)] {
-        let failed = fail_each_of_two(&rt, rt.alloc(), through, Device::Disk)?;
+    let least = [
+        (Manner::Back, 3),
+        (Manner::BackAtFlush, 3),
+        (Manner::Through, 15),
+    ];
+    for (manner, least) in least {
+        let failed = fail_each_of_two(&rt, rt.alloc(), manner, Device::Disk)?;
         assert!(rt; failed > least && failed < CALLS - 1);
     }
     Ok(())

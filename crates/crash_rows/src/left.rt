@@ -1,5 +1,5 @@
-//! What is left on flash and disk when a call of either failed: the plain disk after the lines that were answered, with
-//! some first blocks of the next one.
+//! What is left on flash and disk when a call of either failed: the plain disk after what was acknowledged for good, with
+//! some first ones of the blocks that were written since.
 
 ghost use Rattle.std.specs.Bool.{OnTrue};
 ghost use Rattle.mem_rig.specs.Rig.{state_of};
@@ -7,7 +7,7 @@ ghost use Rattle.op_log.specs.Log.{FitsOn};
 
 use crate::faults::{Device, ends_within, without_call};
 use crate::swept::trace_of;
-use ft_base::{Block, Geometry, Place, Spare, tag_of, zero_block};
+use ft_base::{Ack, Block, Geometry, Place, Spare, tag_of, zero_block};
 use ft_media::PageRead;
 use mapping::Map;
 use mem_rig::MemRig;
@@ -15,9 +15,9 @@ use op_log::OpenError;
 use rand_core::SeedableRng;
 use rand_pcg::Lcg64Xsh32;
 use recovery::load;
-use small_runs::{Outcome, Shape, THROUGH, back, run, shape_of};
+use small_runs::{Manner, Outcome, Shape, THROUGH, at_flush, back, run, shape_of};
 use ssc::Ssc;
-use std::alloc::Global;
+use std::alloc::{AllocError, Global};
 use std::ops::Range;
 use std::process::Abort;
 use std::test::Fail;
@@ -31,20 +31,41 @@ type Tags = [u64; 64];
 
 // ---- what a plain disk would have
 
-/// The plain disk after the lines whose answers were all printed, and the line behind them, if there is one.
-#[derive(Clone, Copy)]
+/// A block that is written: its address and its tag.
+type Written = (u64, u64);
+
+/// The blocks that a run wrote: the plain disk after those that were acknowledged for good, and the others in order. The
+/// last ones are those of the line behind the lines whose answers were all printed.
+#[derive(Drop)]
 struct Reached {
     disk: Tags,
-    next: Option<Line>,
+    others: Vec<Written>,
 }
 
-/// Writes blocks with a tag.
-fn write(disk: &mut Tags, lba: u64, count: u64, tag: u64) {
-    for i in 0..count {
-        let at = lba.saturating_add(i);
-        if at < 64 {
-            disk[at as usize] = tag;
+/// Writes a block with its tag.
+fn write(disk: &mut Tags, (lba, tag): Written) {
+    if lba < 64 {
+        disk[lba as usize] = tag;
+    }
+}
+
+impl Reached {
+    /// The blocks of a line are written.
+    fn begin(&mut self, line: &Line) -> Result<(), AllocError> {
+        if let Line::Write { lba, count, tag } = *line {
+            for i in 0..count {
+                self.others.push((lba.saturating_add(i), tag))?;
+            }
         }
+        Ok(())
+    }
+
+    /// All blocks that were written are acknowledged for good.
+    fn settle(&mut self) {
+        for written in &self.others {
+            write(&mut self.disk, *written);
+        }
+        self.others.clear();
     }
 }
 
@@ -68,8 +89,11 @@ fn behind(text: &[u8], lines: u64) -> Option<&[u8]> {
 }
 
 /// Reads off a text how far a trace without stops was answered.
-fn answered(trace: &[u8], text: &[u8]) -> Reached {
-    let mut disk = [0; 64];
+fn answered(alloc: Global, ack: Ack, trace: &[u8], text: &[u8]) -> Result<Reached, AllocError> {
+    let mut reached = Reached {
+        disk: [0; 64],
+        others: Vec::new(alloc),
+    };
     let mut lines = trace;
     let mut rest = text;
     for _ in 0..trace.len() {
@@ -80,28 +104,26 @@ fn answered(trace: &[u8], text: &[u8]) -> Reached {
         let Ok(line) = read_line(spelled, 64) else {
             break;
         };
+        reached.begin(&line)?;
         let Some(left) = behind(rest, answers_of(&line)) else {
-            let next = Some(line);
-            return Reached { disk, next };
+            break;
         };
         rest = left;
-        if let Line::Write { lba, count, tag } = line {
-            write(&mut disk, lba, count, tag);
+        if ack == Ack::Write || line == Line::Flush {
+            reached.settle();
         }
     }
-    Reached { disk, next: None }
+    Ok(reached)
 }
 
-/// Whether these blocks are the plain disk of the lines that were answered, with some first blocks of the next one.
-fn may_be_left(answered: &Reached, found: &Tags) -> bool {
-    let mut disk = answered.disk;
-    if let Some(Line::Write { lba, count, tag }) = answered.next {
-        for i in 0..count {
-            if disk == *found {
-                return true;
-            }
-            write(&mut disk, lba.saturating_add(i), 1, tag);
+/// Whether these blocks are the plain disk of what was acknowledged for good, with some first ones of the other blocks.
+fn may_be_left(reached: &Reached, found: &Tags) -> bool {
+    let mut disk = reached.disk;
+    for written in &reached.others {
+        if disk == *found {
+            return true;
         }
+        write(&mut disk, *written);
     }
     disk == *found
 }
@@ -184,7 +206,9 @@ fn is_left(alloc: Global, shape: &Shape, trace: &[u8], outcome: &mut Outcome) ->
     let rig = &mut outcome.rig;
     match refusal(alloc, rig, &geometry) {
         None => match found_on(alloc, rig, &geometry) {
-            Some(found) => may_be_left(&answered(trace, text), &found),
+            Some(found) => answered(alloc, shape.manner.ack(), trace, text).is_ok_and(
+                |reached| may_be_left(&reached, &found),
+            ),
             None => false,
         },
         Some(error) => error == OpenError::NotFormatted && text.is_empty(),
@@ -225,14 +249,14 @@ fn fail_each_of(
 fn fail_each(
     rt: &impl Abort,
     alloc: Global,
-    through: bool,
+    manner: Manner,
     device: Device,
     numbers: Range<u64>,
 ) -> Result<u64, Fail> {
     let mut failed: u64 = 0;
     for number in numbers {
         let mut words = Lcg64Xsh32::seed_from_u64(number);
-        let shape = shape_of(&mut words, through);
+        let shape = shape_of(&mut words, manner);
         let trace = trace_of(alloc, &mut words)?;
         let calls = fail_each_of(rt, alloc, &shape, trace.as_slice(), device)?;
         assert!(rt; calls < CALLS - 1);
@@ -247,7 +271,7 @@ const GROUPS: &[u8] = b"w 0 4 1\nw 4 4 1\nr 8 1\nw 0 1 2\n";
 // The disk is flushed when the volume is made, and a block of the third group is read from it.
 #[test]
 fn each_call_of_a_run_over_three_groups_fails_once(rt: HostRuntime) -> Result<(), Fail> {
-    for shape in [back(2, 2), THROUGH] {
+    for shape in [back(2, 2), at_flush(2, 2), THROUGH] {
         let flash = fail_each_of(&rt, rt.alloc(), &shape, GROUPS, Device::Flash)?;
         let disk = fail_each_of(&rt, rt.alloc(), &shape, GROUPS, Device::Disk)?;
         assert!(rt; flash > 20 && disk >= 2);
@@ -257,7 +281,7 @@ fn each_call_of_a_run_over_three_groups_fails_once(rt: HostRuntime) -> Result<()
 
 #[test]
 fn what_a_failed_call_of_the_flash_leaves_is_the_plain_disk(rt: HostRuntime) -> Result<(), Fail> {
-    let failed = fail_each(&rt, rt.alloc(), false, Device::Flash, 600..620)?;
+    let failed = fail_each(&rt, rt.alloc(), Manner::Back, Device::Flash, 600..620)?;
     assert!(rt; failed > 400);
     Ok(())
 }
@@ -266,7 +290,7 @@ fn what_a_failed_call_of_the_flash_leaves_is_the_plain_disk(rt: HostRuntime) -> 
 fn what_a_failed_call_of_the_flash_leaves_is_the_plain_disk_written_through(
     rt: HostRuntime,
 ) -> Result<(), Fail> {
-    let failed = fail_each(&rt, rt.alloc(), true, Device::Flash, 600..620)?;
+    let failed = fail_each(&rt, rt.alloc(), Manner::Through, Device::Flash, 600..620)?;
     assert!(rt; failed > 400);
     Ok(())
 }
@@ -274,7 +298,7 @@ fn what_a_failed_call_of_the_flash_leaves_is_the_plain_disk_written_through(
 // The flush of the opening, each block that is read from the disk, and those that are written back.
 #[test]
 fn what_a_failed_call_of_the_disk_leaves_is_the_plain_disk(rt: HostRuntime) -> Result<(), Fail> {
-    let failed = fail_each(&rt, rt.alloc(), false, Device::Disk, 600..620)?;
+    let failed = fail_each(&rt, rt.alloc(), Manner::Back, Device::Disk, 600..620)?;
     assert!(rt; failed > 60);
     Ok(())
 }
@@ -284,7 +308,22 @@ fn what_a_failed_call_of_the_disk_leaves_is_the_plain_disk(rt: HostRuntime) -> R
 fn what_a_failed_call_of_the_disk_leaves_is_the_plain_disk_written_through(
     rt: HostRuntime,
 ) -> Result<(), Fail> {
-    let failed = fail_each(&rt, rt.alloc(), true, Device::Disk, 600..620)?;
+    let failed = fail_each(&rt, rt.alloc(), Manner::Through, Device::Disk, 600..620)?;
     assert!(rt; failed > 200);
+    Ok(())
+}
+
+#[test]
+fn what_a_failed_call_of_the_flash_leaves_is_the_plain_disk_of_a_flush(
+    rt: HostRuntime,
+) -> Result<(), Fail> {
+    let failed = fail_each(
+        &rt,
+        rt.alloc(),
+        Manner::BackAtFlush,
+        Device::Flash,
+        600..620,
+    )?;
+    assert!(rt; failed > 400);
     Ok(())
 }

@@ -4,7 +4,7 @@ use ft_media::Rig;
 use rand_core::SeedableRng;
 use rand_core::utils::NextWord;
 use rand_pcg::Lcg64Xsh32;
-use small_runs::{cuts_told, is_plain, run, shape_of};
+use small_runs::{Manner, cuts_told, is_plain_with, lost_told, run, shape_of};
 use std::alloc::Global;
 use std::ops::Range;
 use std::process::Abort;
@@ -52,11 +52,13 @@ fn trace_of(alloc: Global, words: &mut Lcg64Xsh32) -> Result<Vec<u8>, Fail> {
     Ok(trace)
 }
 
-/// How many stops fell due, how many writes were cut, and how many blocks went to the disk.
+/// How many stops fell due, how many writes were cut, how many block writes were lost, and how many blocks went to the
+/// disk.
 #[derive(Clone, Copy)]
 struct Seen {
     stops: u64,
     writes: u64,
+    lost: u64,
     disk_writes: u64,
 }
 
@@ -64,22 +66,25 @@ struct Seen {
 fn run_all(
     rt: &impl Abort,
     alloc: Global,
-    through: bool,
+    manner: Manner,
     numbers: Range<u64>,
 ) -> Result<Seen, Fail> {
     let mut seen = Seen {
         stops: 0,
         writes: 0,
+        lost: 0,
         disk_writes: 0,
     };
     for number in numbers {
         let mut words = Lcg64Xsh32::seed_from_u64(number);
-        let shape = shape_of(&mut words, through);
+        let shape = shape_of(&mut words, manner);
         let trace = trace_of(alloc, &mut words)?;
         let outcome = run(alloc, &shape, trace.as_slice())?;
+        let text = outcome.text.as_slice();
         assert_eq!(rt; outcome.status, 0);
-        assert!(rt; is_plain(alloc, trace.as_slice(), outcome.text.as_slice(), 64)?);
-        let (cut, kept) = cuts_told(outcome.text.as_slice());
+        assert!(rt; is_plain_with(alloc, manner.ack(), trace.as_slice(), text, 64)?);
+        let (cut, kept) = cuts_told(text);
+        seen.lost = seen.lost.saturating_add(lost_told(text));
         seen.stops = seen.stops.saturating_add(cut);
         seen.writes = seen.writes.saturating_add(kept);
         seen.disk_writes = seen
@@ -93,8 +98,9 @@ fn run_all(
 fn traces_that_are_written_back_print_what_a_plain_disk_prints(
     rt: HostRuntime,
 ) -> Result<(), Fail> {
-    let seen = run_all(&rt, rt.alloc(), false, 0..150)?;
+    let seen = run_all(&rt, rt.alloc(), Manner::Back, 0..150)?;
     assert!(rt; seen.stops > 150 && seen.writes > 45 && seen.disk_writes > 150);
+    assert_eq!(rt; seen.lost, 0);
     Ok(())
 }
 
@@ -102,8 +108,9 @@ fn traces_that_are_written_back_print_what_a_plain_disk_prints(
 fn more_traces_that_are_written_back_print_what_a_plain_disk_prints(
     rt: HostRuntime,
 ) -> Result<(), Fail> {
-    let seen = run_all(&rt, rt.alloc(), false, 150..300)?;
+    let seen = run_all(&rt, rt.alloc(), Manner::Back, 150..300)?;
     assert!(rt; seen.stops > 150 && seen.writes > 45 && seen.disk_writes > 150);
+    assert_eq!(rt; seen.lost, 0);
     Ok(())
 }
 
@@ -111,7 +118,25 @@ fn more_traces_that_are_written_back_print_what_a_plain_disk_prints(
 fn traces_that_are_written_through_print_what_a_plain_disk_prints(
     rt: HostRuntime,
 ) -> Result<(), Fail> {
-    let seen = run_all(&rt, rt.alloc(), true, 300..450)?;
+    let seen = run_all(&rt, rt.alloc(), Manner::Through, 300..450)?;
     assert!(rt; seen.stops > 150 && seen.writes > 45 && seen.disk_writes > 1500);
+    Ok(())
+}
+
+#[test]
+fn traces_acknowledged_at_a_flush_print_what_a_plain_disk_prints(
+    rt: HostRuntime,
+) -> Result<(), Fail> {
+    let seen = run_all(&rt, rt.alloc(), Manner::BackAtFlush, 600..750)?;
+    assert!(rt; seen.stops > 100 && seen.lost > 100 && seen.disk_writes > 150);
+    Ok(())
+}
+
+#[test]
+fn more_traces_acknowledged_at_a_flush_print_what_a_plain_disk_prints(
+    rt: HostRuntime,
+) -> Result<(), Fail> {
+    let seen = run_all(&rt, rt.alloc(), Manner::BackAtFlush, 750..900)?;
+    assert!(rt; seen.stops > 100 && seen.lost > 100 && seen.disk_writes > 150);
     Ok(())
 }

@@ -1,11 +1,14 @@
 //! Sweeps: the runs of a trace with power cut in each of its device writes. Each run prints what a plain disk prints.
 
+use ft_base::Ack;
 use ft_media::Rig;
 use mem_rig::MemRig;
 use rand_core::SeedableRng;
 use rand_core::utils::NextWord;
 use rand_pcg::Lcg64Xsh32;
-use small_runs::{Outcome, Shape, THROUGH, back, is_plain, shape_of, sweep_on};
+use small_runs::{
+    Manner, Outcome, Shape, THROUGH, at_flush, back, is_plain_with, shape_of, sweep_on,
+};
 use std::alloc::{AllocError, Global};
 use std::ops::Range;
 use std::process::Abort;
@@ -46,6 +49,7 @@ fn run_text(alloc: Global, text: &[u8]) -> Result<(Vec<u8>, &[u8]), Fail> {
 /// after it.
 fn is_plain_at(
     alloc: Global,
+    ack: Ack,
     number: u64,
     outcome: &str,
     trace: &[u8],
@@ -54,11 +58,17 @@ fn is_plain_at(
     let stops = format!(in alloc; "stop {number} {outcome}\nstop 2 {outcome}\n")?;
     let mut lines = Vec::from_slice(alloc, stops.as_bytes())?;
     lines.extend_from_slice(trace)?;
-    is_plain(alloc, lines.as_slice(), run, 64)
+    is_plain_with(alloc, ack, lines.as_slice(), run, 64)
 }
 
 /// The number of runs in a text, if each is what a plain disk prints.
-fn runs_in(alloc: Global, outcome: &str, trace: &[u8], text: &[u8]) -> Result<Option<u64>, Fail> {
+fn runs_in(
+    alloc: Global,
+    ack: Ack,
+    outcome: &str,
+    trace: &[u8],
+    text: &[u8],
+) -> Result<Option<u64>, Fail> {
     let mut rest = text;
     let mut runs: u64 = 0;
     for _ in 0..text.len() {
@@ -73,7 +83,7 @@ fn runs_in(alloc: Global, outcome: &str, trace: &[u8], text: &[u8]) -> Result<Op
             return Ok(if is_last { Some(runs) } else { None });
         }
         let (run, later) = run_text(alloc, after)?;
-        if !is_plain_at(alloc, number, outcome, trace, run.as_slice())? {
+        if !is_plain_at(alloc, ack, number, outcome, trace, run.as_slice())? {
             return Ok(None);
         }
         rest = later;
@@ -110,7 +120,10 @@ fn a_write_that_is_whole_is_kept(rt: HostRuntime) -> Result<(), Fail> {
     )?;
     let text = whole.text.as_slice();
     assert!(rt; text.starts_with(front.as_bytes()));
-    assert_eq!(rt; runs_in(alloc, "whole", b"w 0 1 1\n", text)?, Some(3));
+    assert_eq!(rt;
+        runs_in(alloc, Ack::Write, "whole", b"w 0 1 1\n", text)?,
+        Some(3)
+    );
     Ok(())
 }
 
@@ -122,7 +135,13 @@ fn a_write_through_has_four_device_writes(rt: HostRuntime) -> Result<(), Fail> {
     assert_eq!(rt;
         (
             swept.status,
-            runs_in(alloc, "torn", b"w 0 1 1\n", swept.text.as_slice())?
+            runs_in(
+                alloc,
+                Ack::Write,
+                "torn",
+                b"w 0 1 1\n",
+                swept.text.as_slice()
+            )?
         ),
         (0, Some(4))
     );
@@ -139,14 +158,15 @@ fn a_trace_without_device_writes_has_no_runs(rt: HostRuntime) -> Result<(), Fail
     Ok(())
 }
 
-/// Sweeps a trace over a small volume of each mode, with each outcome.
+/// Sweeps a trace over a small volume of each manner, with each outcome.
 fn sweep_all_ways(rt: &impl Abort, alloc: Global, trace: &[u8]) -> Result<u64, Fail> {
     let mut runs: u64 = 0;
     for outcome in OUTCOMES {
-        for shape in [back(2, 2), THROUGH] {
+        for shape in [back(2, 2), at_flush(2, 2), THROUGH] {
             let swept = sweep(alloc, &shape, outcome, trace)?;
             assert_eq!(rt; swept.status, 0);
-            let count = runs_in(alloc, outcome, trace, swept.text.as_slice())?;
+            let text = swept.text.as_slice();
+            let count = runs_in(alloc, shape.manner.ack(), outcome, trace, text)?;
             assert!(rt; count.is_some());
             runs = runs.saturating_add(count.unwrap_or(0));
         }
@@ -196,18 +216,19 @@ pub(crate) fn trace_of(alloc: Global, words: &mut Lcg64Xsh32) -> Result<Vec<u8>,
 fn sweep_traces(
     rt: &impl Abort,
     alloc: Global,
-    through: bool,
+    manner: Manner,
     numbers: Range<u64>,
 ) -> Result<u64, Fail> {
     let mut runs: u64 = 0;
     for number in numbers {
         let mut words = Lcg64Xsh32::seed_from_u64(number);
-        let shape = shape_of(&mut words, through);
+        let shape = shape_of(&mut words, manner);
         let trace = trace_of(alloc, &mut words)?;
         let outcome = OUTCOMES[(number % 4) as usize];
         let swept = sweep(alloc, &shape, outcome, trace.as_slice())?;
         assert_eq!(rt; swept.status, 0);
-        let count = runs_in(alloc, outcome, trace.as_slice(), swept.text.as_slice())?;
+        let text = swept.text.as_slice();
+        let count = runs_in(alloc, shape.manner.ack(), outcome, trace.as_slice(), text)?;
         assert!(rt; count.is_some());
         runs = runs.saturating_add(count.unwrap_or(0));
     }
@@ -218,7 +239,7 @@ fn sweep_traces(
 fn sweeps_of_traces_that_are_written_back_print_what_a_plain_disk_prints(
     rt: HostRuntime,
 ) -> Result<(), Fail> {
-    let runs = sweep_traces(&rt, rt.alloc(), false, 500..520)?;
+    let runs = sweep_traces(&rt, rt.alloc(), Manner::Back, 500..520)?;
     assert!(rt; runs > 200);
     Ok(())
 }
@@ -227,7 +248,16 @@ fn sweeps_of_traces_that_are_written_back_print_what_a_plain_disk_prints(
 fn sweeps_of_traces_that_are_written_through_print_what_a_plain_disk_prints(
     rt: HostRuntime,
 ) -> Result<(), Fail> {
-    let runs = sweep_traces(&rt, rt.alloc(), true, 520..540)?;
+    let runs = sweep_traces(&rt, rt.alloc(), Manner::Through, 520..540)?;
+    assert!(rt; runs > 200);
+    Ok(())
+}
+
+#[test]
+fn sweeps_of_traces_acknowledged_at_a_flush_print_what_a_plain_disk_prints(
+    rt: HostRuntime,
+) -> Result<(), Fail> {
+    let runs = sweep_traces(&rt, rt.alloc(), Manner::BackAtFlush, 540..564)?;
     assert!(rt; runs > 200);
     Ok(())
 }

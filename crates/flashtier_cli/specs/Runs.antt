@@ -58,8 +58,9 @@ pub record EndsAt (command : Command) (status : ℕ) {I O : Type 0} (i j : I) (o
 -- a command ran, with parity or without
 pub record Runs (parity : Parity) (command : Command) (status : ℕ) {I O R : Type 0} (i j : I) (o p : O) (r s : R)
     (a b : SourceState) (x y : SinkState) (old new : State) : Type 0 where
-  -- Over its volume the text is what a plain disk prints that holds, after each recovery, a prefix of the block writes with every acknowledged
-  -- one; and the media are that disk, wherever power stops next.
+  -- Over its volume the text is what a plain disk prints that holds, after each recovery, a prefix of the block writes with every one
+  -- acknowledged for good; and the media are that disk, wherever power stops next. With `--ack write` a write is
+  -- acknowledged for good by its `wrote` line, with `--ack flush` by the next `flushed`.
   pub ends : OnDevices parity (EndsAt command status i j o p a b x y) old new
   pub end : IsRead command → status ≡ 0 → IsAtEnd b.left
   -- a made trace takes nothing from the source, however it ends

@@ -26,6 +26,7 @@ use std::alloc::Global;
 /// | `--journal` | erase blocks of a log region | 1 to 16 | 2 |
 /// | `--size` | blocks of the volume | 1 to 2^40 | 1,048,576 |
 /// | `--dirty` | groups that an idle step leaves dirty | 1 to the data blocks | half of these, rounded up |
+/// | `--ack` | when a write is acknowledged for good: when it answers, `write`, or at the next flush, `flush`, which is no value with `--mode through` | | `write` |
 /// | `--flash` | whether flash tells which of its pages are torn, `plain`, or gives back their bytes alone, `raw` | | `plain` |
 /// | `--parity` | whether an erase block has one more page with the parity of the others: `off` or `on` | | `off` |
 /// | `--form`, of `replay` and `cost` alone | form of the trace's lines: `lines`, or `msr` for those of MSR Cambridge | | `lines` |
@@ -35,7 +36,8 @@ use std::alloc::Global;
 ///
 /// With `replay` it reads a trace from the source, runs it over a cache of these numbers before a disk, both
 /// of them on the rig, and prints to the sink what each request answered. Power may stop within any device
-/// write; the run then goes on after recovery. With `--form msr` its lines are those that storage people share,
+/// write; the run then goes on after recovery. With `--ack flush` it tells how many block writes since the last flush a
+/// power cut lost. With `--form msr` its lines are those that storage people share,
 /// `Timestamp,Hostname,DiskNumber,Type,Offset,Size,ResponseTime`, each widened to whole blocks.
 ///
 /// With `gen` it runs a made trace so, and prints the end line alone. It takes nothing from the source.

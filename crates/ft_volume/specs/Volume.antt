@@ -5,7 +5,7 @@ use Rattle.std.specs.FinMap.{entries, get}
 use Rattle.std.specs.Option.{is_some}
 use Rattle.ft_base.specs.Contents.{Contents, Image, Now}
 use Rattle.ft_base.specs.Count.{Rose, RoseBy}
-use Rattle.ft_base.specs.Layout.{log_pages}
+use Rattle.ft_base.specs.Layout.{log_pages, page_records}
 use Rattle.ft_base.specs.PlainDisk.{PlainDisk, BlockWrite, after_writes}
 use Rattle.ft_base.specs.Table.{Table, table_of, table_written, backs_written, table_idled, backs_idled, goes_back, is_full, without_last}
 use Rattle.ft_base.specs.Told.{Told}
@@ -14,7 +14,8 @@ use Rattle.ft_base.specs.declared.block.Page.{Page}
 use Rattle.ft_base.specs.declared.block.Place.{Place}
 use Rattle.ft_base.specs.declared.told.Mode.{Mode}
 use Rattle.ft_base.specs.declared.told.Mode.TheVariants.{Back, Through}
-use Rattle.ft_base.specs.declared.told.Ack.TheVariants.{Write as AtWrite}
+use Rattle.ft_base.specs.declared.told.Ack.{Ack}
+use Rattle.ft_base.specs.declared.told.Ack.TheVariants.{Write as AtWrite, Flush as AtFlush}
 use Rattle.cache_model.specs.Records.{Entries}
 use Rattle.ft_media.specs.Fitted.{KeepsReady}
 use Rattle.ft_media.specs.Media.{program_counted}
@@ -28,16 +29,22 @@ use Rattle.ft_volume.specs.declared.volume.VolumeError.{VolumeError}
 use Rattle.ft_volume.specs.declared.volume.VolumeError.TheVariants.{FlashFault, DiskFault, PowerLost, OutOfMemory, OutOfVolume}
 use Rattle.ft_volume.specs.Standing.{StandFor}
 
--- what a volume of this mode, made with these options, says of itself; each write is on the media when it answers
+-- a volume that writes through has each write on the media when it answers
+abbrev pub ack_for : Mode → Ack → Ack
+ack_for Back ack = ack
+ack_for Through ack = AtWrite
+
+-- what a volume of this mode, made with these options, says of itself
 abbrev pub told_for : Mode → Options → Told
-told_for mode options = record { geometry = options.geometry; dirty = options.dirty; mode = mode; ack = AtWrite }
+told_for mode options = record { geometry = options.geometry; dirty = options.dirty; mode = mode; ack = ack_for mode options.ack }
 
 -- a volume at one moment. While it is down, nothing is said of the held addresses and the waiting blocks
 pub record VolumeState : Type 0 where
   pub told : Told
   -- the next call opens it again
   pub down : Bool
-  -- the writes that were acknowledged and are not on the media, the oldest first
+  -- the writes that were acknowledged and are not on the media, the oldest first. Their blocks lie on the media, so
+  -- `owing` puts them here
   pub owed : List BlockWrite
   -- the addresses whose blocks the cache has
   pub held : ℕ → Bool
@@ -150,6 +157,16 @@ Done stands call old new before after result = (bases : List PlainDisk) → Stan
 abbrev pub Fixes : (Told → Image → PlainDisk → Type 0) → VolumeState → VolumeState → Contents → Contents → Type 0
 Fixes stands old new before after = (bases : List PlainDisk) → StandForAny (stands old.told) before bases
     → StandForOneOf (stands new.told) after bases
+
+-- the volume at this moment, and these writes are owed
+abbrev pub owing : VolumeState → List BlockWrite → VolumeState
+owing v owed = record v { owed = owed }
+
+-- whichever writes were owed before a call, some are owed after it, and the call did this to the plain disk
+abbrev pub DoneOwing : {T : Type 0} → (List BlockWrite → Type 0) → (List BlockWrite → Type 0)
+    → (Told → Image → PlainDisk → Type 0) → Call → VolumeState → VolumeState → Contents → Contents → Result T VolumeError → Type 0
+DoneOwing was is stands call old new before after result = (owed : List BlockWrite) → was owed
+    → (left : List BlockWrite) × is left × Done stands call (owing old owed) (owing new left) before after result
 
 -- a call that found one plain disk, and nothing was owed before or after it
 pub record WasOne {T : Type 0} (stands : Image → PlainDisk → Type 0) (call : Call) (after : Contents) (result : Result T VolumeError)
@@ -286,18 +303,23 @@ pub record HoldsAfter (told : Told) (call : Call) (old new : ℕ → Bool) : Typ
   pub only : (a : ℕ) → new a ≡ true → (old a ≡ true) ⊎ IsOwn call a
   pub stays : (groups : List ℕ) → LieIn told call old groups → (a : ℕ) → old a ≡ true → new a ≡ true
 
--- whether a call may have used the log before it fails
-abbrev pub may_log : Call → Bool
-may_log (Reads lba block) = false
-may_log (Writes lba block) = true
-may_log Flushes = true
-may_log Idles = false
-may_log Reports = true
+-- writes that may be owed are committed before a group is written back
+abbrev pub commits_first : Ack → Bool
+commits_first AtWrite = false
+commits_first AtFlush = true
 
--- a call that failed, after which the volume is still up. After a read or an idle step nothing has changed. Else the
--- table is unchanged or lacks its last group. The same addresses are held, except that the call's own may be dropped
+-- whether a call may have used the log before it fails
+abbrev pub may_log : Ack → Call → Bool
+may_log ack (Reads lba block) = false
+may_log ack (Writes lba block) = true
+may_log ack Flushes = true
+may_log ack Idles = commits_first ack
+may_log ack Reports = true
+
+-- a call that failed, after which the volume is still up. If the call can't have used the log, nothing has changed. Else
+-- the table is unchanged or lacks its last group. The same addresses are held, except that the call's own may be dropped
 pub record StaysUp (call : Call) (old new : VolumeState) : Type 0 where
-  pub same : may_log call ≡ false → new ≡ old
+  pub same : may_log old.told.ack call ≡ false → new ≡ old
   pub table : (new.table ≡ old.table) ⊎ (new.table ≡ without_last old.table)
   pub held : (a : ℕ) → (new.held a ≡ old.held a) ⊎ (IsOwn call a × (new.held a ≡ false))
 
@@ -335,20 +357,32 @@ FindsHeld Flushes v = ⊥
 FindsHeld Idles v = ⊥
 FindsHeld Reports v = ⊥
 
--- the call writes to a volume that is up and writes back, and the table, the open log block and the log have room
+-- the call writes to a volume that is up and writes back, and the table and the open log block have room
 pub record HasRoom (told : Told) (lba : ℕ) (v : VolumeState) : Type 0 where
   pub up : v.down ≡ false
   pub back : told.mode ≡ Back
   pub table : is_full told.geometry.c (lba / told.geometry.p) v.table ≡ false
   pub block : 1 ≤ v.open_room
+
+-- the write is on the media when it answers, and the log has room for its record too
+pub record CommitsInRoom (told : Told) (lba : ℕ) (v : VolumeState) : Type 0 where
+  pub room : HasRoom told lba v
+  pub ack : told.ack ≡ AtWrite
   pub log : 1 ≤ v.log_room
 
-abbrev pub FindsRoom : Call → VolumeState → Type 0
-FindsRoom (Reads lba block) v = ⊥
-FindsRoom (Writes lba block) v = HasRoom v.told lba v
-FindsRoom Flushes v = ⊥
-FindsRoom Idles v = ⊥
-FindsRoom Reports v = ⊥
+-- the write may be owed, and its record is not the last one that the buffer takes
+pub record BuffersInRoom (told : Told) (lba : ℕ) (v : VolumeState) : Type 0 where
+  pub room : HasRoom told lba v
+  pub ack : told.ack ≡ AtFlush
+  pub buffered : v.buffered + 2 ≤ page_records told.geometry
+
+-- of a call that writes to this volume
+abbrev pub IsWriteIn : (Told → ℕ → VolumeState → Type 0) → Call → VolumeState → Type 0
+IsWriteIn finds (Reads lba block) v = ⊥
+IsWriteIn finds (Writes lba block) v = finds v.told lba v
+IsWriteIn finds Flushes v = ⊥
+IsWriteIn finds Idles v = ⊥
+IsWriteIn finds Reports v = ⊥
 
 -- the flash failed
 abbrev pub flash_failed : {T : Type 0} → Result T VolumeError → Bool
@@ -358,12 +392,14 @@ flash_failed (Ok value) = false
 
 -- the device calls of a call, on a volume that was `old`, and was `up` once it was up: how often it flushes the disk at
 -- most, whatever it answers. A read that finds its address held only reads the flash, and changes nothing. A write that
--- finds room programs a page for its block and one for its record, and makes no other device write
+-- finds room programs a page for its block and one for its record, or only the first if its record is buffered. It makes
+-- no other device write
 pub record AsksDevices {T : Type 0} (call : Call) (old up new : VolumeState) (before after : State) (result : Result T VolumeError)
     : Type 0 where
   pub flushes : after.counts.disk_flushes ≤ before.counts.disk_flushes + (opening_flushes old.down + flushes_of call up.told up.table)
   pub found : FindsHeld call old → (new ≡ old) × ReadsFlash before after (flash_failed result) (volume_lost result)
-  pub two_programs : OnOk result (FindsRoom call old → after.counts ≡ program_counted (program_counted before.counts))
+  pub two_programs : OnOk result (IsWriteIn CommitsInRoom call old → after.counts ≡ program_counted (program_counted before.counts))
+  pub one_program : OnOk result (IsWriteIn BuffersInRoom call old → after.counts ≡ program_counted before.counts)
 
 -- ---- the answer of an idle step, for this many dirty groups and this many pages left of the log
 

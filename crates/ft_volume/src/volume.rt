@@ -1,6 +1,6 @@
-ghost use Rattle.std.specs.Prelude.{◌≡◌, ◌↔◌, ◌≤◌, [], length, true, false, OnOk, OnErr, IfOk, IsErrOf};
+ghost use Rattle.std.specs.Prelude.{◌≡◌, ◌↔◌, ◌≤◌, List, [], length, true, false, OnOk, OnErr, IfOk, IsErrOf};
 ghost use Rattle.ft_base.specs.Contents.{Contents, Image};
-ghost use Rattle.ft_base.specs.PlainDisk.{PlainDisk};
+ghost use Rattle.ft_base.specs.PlainDisk.{BlockWrite, PlainDisk};
 ghost use Rattle.ft_base.specs.Told.{Told};
 ghost use Rattle.ft_base.specs.declared.told.Ack.TheVariants as ack;
 ghost use Rattle.ft_base.specs.declared.block.Page.{Page};
@@ -8,10 +8,10 @@ ghost use Rattle.ft_base.specs.declared.block.Place.{Place};
 ghost use Rattle.cache_model.specs.Records.{Entries};
 ghost use Rattle.ft_media.specs.Passes.{ProgramsPages};
 ghost use Rattle.ft_media.specs.Rig.{CutThrough};
-ghost use Rattle.ft_volume.specs.Volume.{AsksDevices, Costs, Done, FaultDowns, Fixes, Flushes, Goes, Idles, IsCheckpointed, IsHeldBy, Reads, Reports, VolumeState, Writes, idled_of, opened_of};
+ghost use Rattle.ft_volume.specs.Volume.{AsksDevices, Costs, DoneOwing, FaultDowns, Fixes, Flushes, Goes, Idles, IsCheckpointed, IsHeldBy, Reads, Reports, VolumeState, Writes, idled_of, opened_of};
 ghost use Rattle.ft_volume.specs.Reported.{IsReport};
 
-use ft_base::{Block, Outcome};
+use ft_base::{Ack, Block, Outcome};
 use ft_media::{Media, Rig};
 use thiserror::Error;
 
@@ -72,6 +72,9 @@ pub trait Volume<R: Rig> {
     /// The contents are the ones that this volume left.
     ghost owns: { Self → Contents → Type 0 };
 
+    /// With these contents these writes are owed, the oldest first: they were acknowledged, and are not on the media.
+    ghost owes: { Self → Contents → List BlockWrite → Type 0 };
+
     /// The image stands for this plain disk.
     ghost stands: { Told → Image → PlainDisk → Type 0 };
 
@@ -86,12 +89,21 @@ pub trait Volume<R: Rig> {
     fn is_down(&self) -> bool
         ensures { result ≡ (state self.now).down };
 
+    /// How many writes are owed: at most 126.
+    fn owed(&self) -> u32
+        ensures { (contents : Contents) (owed : List BlockWrite) → owns self.now contents → owes self.now contents owed
+            → result ≡ length owed };
+
+    /// When a write is on the media. No call changes it.
+    fn ack(&self) -> Ack
+        ensures { result ≡ (state self.now).told.ack };
+
     /// Reads the block at an address. It changes no block.
     fn read(&mut self, rig: &mut R, lba: u64, block: &mut Block) -> Result<(), VolumeError>
         requires { owns self.old (R.state rig.old).contents }
         ensures owns { owns self.new (R.state rig.new).contents }
-        ensures disk { Done stands (Reads lba block.new) (state self.old) (state self.new)
-            (R.state rig.old).contents (R.state rig.new).contents result }
+        ensures disk { DoneOwing (owes self.old (R.state rig.old).contents) (owes self.new (R.state rig.new).contents)
+            stands (Reads lba block.new) (state self.old) (state self.new) (R.state rig.old).contents (R.state rig.new).contents result }
         ensures goes { Goes (state self.old) (state self.new) (R.state rig.old) (R.state rig.new) result }
         ensures costs { (m : Entries) → loads (state self.old).told (R.state rig.old).contents.flash.page m
             → Costs (Reads lba block.new) (opened_of (state self.old) m) (state self.new) (R.state rig.old) (R.state rig.new) result }
@@ -106,8 +118,8 @@ pub trait Volume<R: Rig> {
     fn write(&mut self, rig: &mut R, lba: u64, block: &Block) -> Result<(), VolumeError>
         requires { owns self.old (R.state rig.old).contents }
         ensures owns { owns self.new (R.state rig.new).contents }
-        ensures disk { Done stands (Writes lba block.now) (state self.old) (state self.new)
-            (R.state rig.old).contents (R.state rig.new).contents result }
+        ensures disk { DoneOwing (owes self.old (R.state rig.old).contents) (owes self.new (R.state rig.new).contents)
+            stands (Writes lba block.now) (state self.old) (state self.new) (R.state rig.old).contents (R.state rig.new).contents result }
         ensures goes { Goes (state self.old) (state self.new) (R.state rig.old) (R.state rig.new) result }
         ensures faulted { FaultDowns result (state self.new).down }
         ensures costs { (m : Entries) → loads (state self.old).told (R.state rig.old).contents.flash.page m
@@ -123,9 +135,9 @@ pub trait Volume<R: Rig> {
     fn flush(&mut self, rig: &mut R) -> Result<(), VolumeError>
         requires { owns self.old (R.state rig.old).contents }
         ensures owns { owns self.new (R.state rig.new).contents }
-        ensures disk { Done stands Flushes (state self.old) (state self.new)
-            (R.state rig.old).contents (R.state rig.new).contents result }
-        ensures nothing_owed { OnOk result ((state self.new).owed ≡ []) }
+        ensures disk { DoneOwing (owes self.old (R.state rig.old).contents) (owes self.new (R.state rig.new).contents)
+            stands Flushes (state self.old) (state self.new) (R.state rig.old).contents (R.state rig.new).contents result }
+        ensures nothing_owed { OnOk result ((owed : List BlockWrite) → owes self.new (R.state rig.new).contents owed → owed ≡ []) }
         ensures nothing_buffered { OnOk result ((state self.new).buffered ≡ 0) }
         ensures goes { Goes (state self.old) (state self.new) (R.state rig.old) (R.state rig.new) result }
         ensures refused { OnErr result ((state self.new).down ≡ true) }
@@ -141,8 +153,8 @@ pub trait Volume<R: Rig> {
     fn idle(&mut self, rig: &mut R) -> Result<Idled, VolumeError>
         requires { owns self.old (R.state rig.old).contents }
         ensures owns { owns self.new (R.state rig.new).contents }
-        ensures disk { Done stands Idles (state self.old) (state self.new)
-            (R.state rig.old).contents (R.state rig.new).contents result }
+        ensures disk { DoneOwing (owes self.old (R.state rig.old).contents) (owes self.new (R.state rig.new).contents)
+            stands Idles (state self.old) (state self.new) (R.state rig.old).contents (R.state rig.new).contents result }
         ensures goes { Goes (state self.old) (state self.new) (R.state rig.old) (R.state rig.new) result }
         ensures faulted { FaultDowns result (state self.new).down }
         ensures costs { (m : Entries) → loads (state self.old).told (R.state rig.old).contents.flash.page m
@@ -162,9 +174,9 @@ pub trait Volume<R: Rig> {
     fn report(&mut self, rig: &mut R) -> Result<Report, VolumeError>
         requires { owns self.old (R.state rig.old).contents }
         ensures owns { owns self.new (R.state rig.new).contents }
-        ensures disk { Done stands Reports (state self.old) (state self.new)
-            (R.state rig.old).contents (R.state rig.new).contents result }
-        ensures nothing_owed { OnOk result ((state self.new).owed ≡ []) }
+        ensures disk { DoneOwing (owes self.old (R.state rig.old).contents) (owes self.new (R.state rig.new).contents)
+            stands Reports (state self.old) (state self.new) (R.state rig.old).contents (R.state rig.new).contents result }
+        ensures nothing_owed { OnOk result ((owed : List BlockWrite) → owes self.new (R.state rig.new).contents owed → owed ≡ []) }
         ensures nothing_buffered { OnOk result ((state self.new).buffered ≡ 0) }
         ensures goes { Goes (state self.old) (state self.new) (R.state rig.old) (R.state rig.new) result }
         ensures faulted { IsErrOf result VolumeError.DiskFault → (state self.new).down ≡ true }
@@ -187,11 +199,20 @@ pub trait Volume<R: Rig> {
         ensures down { (state self.new).down ≡ true }
         ensures through { CutThrough (R.state rig.old) (R.state rig.new) outcome };
 
+    /// Some list of writes is owed, maybe none.
+    ghost owes_some: { (v : Self) (contents : Contents) → owns v contents → (owed : List BlockWrite) × owes v contents owed };
+
     /// While the volume is down, nothing is owed.
-    ghost down_owes_nothing: { (v : Self) (contents : Contents) → owns v contents → (state v).down ≡ true → (state v).owed ≡ [] };
+    ghost down_owes_nothing: { (v : Self) (contents : Contents) (owed : List BlockWrite) → owns v contents
+        → (state v).down ≡ true → owes v contents owed → owed ≡ [] };
 
     /// If each write is on the media when it answers, nothing is owed.
-    ghost write_owes_nothing: { (v : Self) (contents : Contents) → owns v contents → (state v).told.ack ≡ ack.Write → (state v).owed ≡ [] };
+    ghost write_owes_nothing: { (v : Self) (contents : Contents) (owed : List BlockWrite) → owns v contents
+        → (state v).told.ack ≡ ack.Write → owes v contents owed → owed ≡ [] };
+
+    /// At most 126 writes are owed.
+    ghost few_owed: { (v : Self) (contents : Contents) (owed : List BlockWrite) → owns v contents → owes v contents owed
+        → length owed ≤ 126 };
 
     /// The contents that the volume left can be opened.
     ghost can_be_loaded: { (v : Self) (contents : Contents) → owns v contents

@@ -4,7 +4,7 @@ use crate::flash::put_pages;
 use crate::stuck::Stuck;
 use cache_run::replay_with;
 use ft_base::{Geometry, MemSink, MemSource, Page};
-use ft_volume::{Mode, Options};
+use ft_volume::{Ack, Mode, Options};
 use mem_rig::MemRig;
 use rand_core::SeedableRng;
 use rand_core::utils::NextWord;
@@ -27,7 +27,11 @@ fn options_of(words: &mut Lcg64Xsh32) -> Option<Options> {
     let l = 2 + words.next_word() % 2;
     let dirty = 1 + words.next_word() % c;
     match Geometry::new(4, c, l, 1, 64) {
-        Ok(geometry) => Some(Options { geometry, dirty }),
+        Ok(geometry) => Some(Options {
+            geometry,
+            dirty,
+            ack: Ack::Write,
+        }),
         Err(_) => None,
     }
 }

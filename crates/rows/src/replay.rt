@@ -240,7 +240,7 @@ fn a_cut_loses_nothing_that_was_acknowledged(rt: HostRuntime) -> Result<(), Fail
 }
 
 /// Words that are no command.
-const WRONG: [&[&str]; 45] = [
+const WRONG: [&[&str]; 48] = [
     &[],
     &["play"],
     &["Replay"],
@@ -284,6 +284,9 @@ const WRONG: [&[&str]; 45] = [
     &["replay", "--size=64", "--size=64"],
     &["replay", "--siz=64"],
     &["replay", "--mode=forward"],
+    &["replay", "--ack=soon"],
+    &["replay", "--ack"],
+    &["cost", "--ack=flush", "--mode=through"],
     &["replay", "--data", "2", "--dirty", "3"],
     &["replay", "--dirty=0"],
 ];

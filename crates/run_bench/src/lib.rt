@@ -1,8 +1,10 @@
-//! Measures the whole program in three ways. A made trace is run over flash and disk in memory, beside its floor: the
-//! cost of the same pages and blocks in a plain loop. A sweep is run beside its runs one by one. A trace is run in
-//! both forms of lines. The sides of each comparison are measured in one process, one after the other.
+//! Measures the whole program in four ways. A made trace is run over flash and disk in memory, beside its floor: the
+//! cost of the same pages and blocks in a plain loop. Single writes are run with both values of `--ack`. A sweep is run
+//! beside its runs one by one. A trace is run in both forms of lines. The sides of each comparison are measured in one
+//! process, one after the other.
 #![tactic(auto)]
 
+pub mod acked;
 pub mod floor;
 pub mod forms;
 pub mod memory;
@@ -12,6 +14,7 @@ pub mod row;
 pub mod slot;
 pub mod swept;
 
+use acked::{Acked, write_acked};
 use floor::floor;
 use forms::{Formed, read_forms};
 use memory::peak_memory;
@@ -21,7 +24,8 @@ use std::io;
 use std::rt::{Clock, Files};
 use swept::{Swept, sweep};
 
-/// Runs the made trace that these options of `gen` name, and prints a row. Answers the status of the run.
+/// Runs the made trace that these options of `gen` name, and prints a row; then single writes with both values of
+/// `--ack`. Answers the status of the first run that ends with another one than 0.
 pub fn measure(
     rt: &(impl AllocGlobal + Clock + Files + Print + Eprint),
     options: &[String],
@@ -40,6 +44,32 @@ pub fn measure(
     print_head(rt)?;
     let line = row.line(rt.alloc())?;
     println!(rt; "{line}")?;
+    measure_acked(rt)
+}
+
+/// Runs single writes with both values of `--ack`, and prints how many pages each programmed and how long each took.
+/// Answers the status of a run.
+fn measure_acked(rt: &(impl AllocGlobal + Clock + Print + Eprint)) -> io::Result<u8> {
+    let acked: Acked = match write_acked(rt)? {
+        Ok(acked) => acked,
+        Err(status) => {
+            eprintln!(rt; "bench: a run ended with status {status}")?;
+            return Ok(status);
+        }
+    };
+    let (programs, time) = (acked.programs_ratio(), acked.time_ratio());
+    let (write, flush) = (acked.write, acked.flush);
+    println!(rt;
+        "20000 single writes: --ack write {} programs in {} ms, --ack flush {} in {} ms: {}.{:02} of the programs, {}.{:02} of the time",
+        write.programs,
+        write.time.as_millis(),
+        flush.programs,
+        flush.time.as_millis(),
+        programs / 100,
+        programs % 100,
+        time / 100,
+        time % 100
+    )?;
     Ok(0)
 }
 

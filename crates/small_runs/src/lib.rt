@@ -7,5 +7,5 @@
 mod plain;
 mod small;
 
-pub use plain::{cuts_told, is_plain};
-pub use small::{Outcome, Shape, THROUGH, back, run, run_on, shape_of, sweep_on};
+pub use plain::{cuts_told, is_plain, is_plain_with, lost_told};
+pub use small::{Manner, Outcome, Shape, THROUGH, at_flush, back, run, run_on, shape_of, sweep_on};

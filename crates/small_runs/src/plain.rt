@@ -8,28 +8,32 @@ use std::alloc::{AllocError, Global};
 use trace_model::{Line, Ran, plain_end, plain_fits, plain_told};
 use trace_text::{Answer, next_line, put_answer, read_answer, read_line};
 
-/// The lines of a run and what became of them, newest first, and the number of stops that cut the end line.
-#[derive(Drop)]
-struct Record {
-    run: Vec<Ran>,
-    end_cuts: u64,
+/// Reads from a printed text what became of each line of a trace. Says whether a plain disk then prints this text, if
+/// each write is acknowledged for good when it answers.
+pub fn is_plain(alloc: Global, trace: &[u8], text: &[u8], size: u64) -> Result<bool, AllocError> {
+    is_plain_with(alloc, Ack::Write, trace, text, size)
 }
 
-/// Reads from a printed text what became of each line of a trace. Says whether a plain disk then prints this text.
-pub fn is_plain(alloc: Global, trace: &[u8], text: &[u8], size: u64) -> Result<bool, AllocError> {
-    let record = record_of(alloc, trace, text, size)?;
-    let run = record.run.as_slice();
-    if !are_run_lines(run) || !plain_fits(alloc, Ack::Write, run)? {
+/// The same, if writes are acknowledged for good as `ack` says.
+pub fn is_plain_with(
+    alloc: Global,
+    ack: Ack,
+    trace: &[u8],
+    text: &[u8],
+    size: u64,
+) -> Result<bool, AllocError> {
+    let run = run_of(alloc, trace, text, size)?;
+    let run = run.as_slice();
+    if !are_run_lines(run) || !plain_fits(alloc, ack, run)? {
         return Ok(false);
     }
     let mut wanted = Vec::new(alloc);
     for answer in &plain_told(alloc, run)? {
         put_answer(&mut wanted, answer)?;
     }
-    for _ in 0..record.end_cuts {
-        put_answer(&mut wanted, &Answer::Stopped)?;
-    }
-    put_answer(&mut wanted, &plain_end(alloc, run)?)?;
+    // The flush before the end line prints nothing itself.
+    wanted.truncate(wanted.len().saturating_sub(b"flushed\n".len()));
+    put_answer(&mut wanted, &plain_end(alloc, run, 0)?)?;
     Ok(wanted.as_slice() == text)
 }
 
@@ -52,7 +56,25 @@ pub fn cuts_told(text: &[u8]) -> (u64, u64) {
     (stops, writes)
 }
 
-fn record_of(alloc: Global, trace: &[u8], text: &[u8], size: u64) -> Result<Record, AllocError> {
+/// How many block writes the printed lines say were lost.
+pub fn lost_told(text: &[u8]) -> u64 {
+    let mut lost: u64 = 0;
+    let mut rest = text;
+    for _ in 0..text.len() {
+        let Some((answer, after)) = next_answer(rest) else {
+            break;
+        };
+        if let Answer::Lost { count } = answer {
+            lost = lost.saturating_add(count);
+        }
+        rest = after;
+    }
+    lost
+}
+
+/// The lines of a run and what became of them, newest first. What comes between the last line and the end line is told
+/// as of a flush, since no more and no less can become of a flush.
+fn run_of(alloc: Global, trace: &[u8], text: &[u8], size: u64) -> Result<Vec<Ran>, AllocError> {
     let mut run = Vec::new(alloc);
     let mut lines = trace;
     let mut answers = text;
@@ -68,15 +90,16 @@ fn record_of(alloc: Global, trace: &[u8], text: &[u8], size: u64) -> Result<Reco
         run.insert(0, ran)?;
         answers = rest;
     }
-    let (end_cuts, _) = without_stops(answers);
-    Ok(Record { run, end_cuts })
+    let (end, _) = became(Line::Flush, answers);
+    run.insert(0, end)?;
+    Ok(run)
 }
 
 /// What became of a line, and the text after its answers.
 fn became(line: Line, answers: &[u8]) -> (Ran, &[u8]) {
-    let (cuts, rest) = match line {
-        Line::Stop { .. } | Line::Nothing => (0, answers),
-        _ => without_stops(answers),
+    let ((cuts, lost), rest) = match line {
+        Line::Stop { .. } | Line::Nothing => ((0, 0), answers),
+        _ => without_cuts(answers),
     };
     let (kept, rest) = match line {
         Line::Write { count, .. } => kept_of(rest, count),
@@ -84,7 +107,6 @@ fn became(line: Line, answers: &[u8]) -> (Ran, &[u8]) {
         Line::Flush | Line::Idle | Line::Cut { .. } => (0, after_answers(rest, 1)),
         Line::Stop { .. } | Line::Nothing => (0, rest),
     };
-    let lost = 0;
     let ran = Ran {
         line,
         cuts,
@@ -92,6 +114,15 @@ fn became(line: Line, answers: &[u8]) -> (Ran, &[u8]) {
         lost,
     };
     (ran, rest)
+}
+
+/// How many lines that say a stop come first, how many block writes were lost then, and the text after that.
+fn without_cuts(answers: &[u8]) -> ((u64, u64), &[u8]) {
+    let (cuts, rest) = without_stops(answers);
+    match next_answer(rest) {
+        Some((Answer::Lost { count }, after)) => ((cuts, count), after),
+        _ => ((cuts, 0), rest),
+    }
 }
 
 /// How many lines that say a stop come first, and the text after them.
@@ -135,8 +166,7 @@ fn next_answer(answers: &[u8]) -> Option<(Answer, &[u8])> {
     Some((read_answer(line)?, after))
 }
 
-/// Whether the addresses of the lines are numbers of 64 bits, no more blocks count than a write has, and no block
-/// write is lost.
+/// Whether the addresses of the lines are numbers of 64 bits, and no more blocks count than a write has.
 #[tactic(auto, using(crate::proofs::PlainLemmas::first_runs, crate::proofs::PlainLemmas::first_addressed))]
 fn are_run_lines(run: &[Ran]) -> bool
     ensures run { IsTrue result → AreRunLines run.now }
@@ -155,7 +185,7 @@ fn are_run_lines(run: &[Ran]) -> bool
 fn is_run_line(ran: &Ran) -> bool
     ensures { IsTrue result → IsRunLine ran.now }
 {
-    ran.lost == 0 && is_in_range(ran)
+    is_in_range(ran)
 }
 
 fn is_in_range(ran: &Ran) -> bool

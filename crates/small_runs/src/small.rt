@@ -1,17 +1,47 @@
 //! The program over a volume of 64 blocks in 16 groups, on flash with erase blocks of 4 pages.
 
 use flashtier_cli::run as run_words;
-use ft_base::{MemSink, MemSource};
+use ft_base::{Ack, MemSink, MemSource};
 use mem_rig::MemRig;
 use rand_core::utils::NextWord;
 use rand_pcg::Lcg64Xsh32;
 use std::alloc::{AllocError, Global};
 
+/// How a small volume takes a write.
+#[derive(Clone, Copy, PartialEq, Eq)]
+pub enum Manner {
+    /// The disk gets the block later, and the flash has it when the write answers.
+    Back,
+    /// The disk gets the block later, and the flash has it after the next flush at the latest.
+    BackAtFlush,
+    /// The disk gets the block within the write.
+    Through,
+}
+
+impl Manner {
+    /// The words for it: the value of `--mode`, and the value of `--ack`.
+    fn words(self) -> (&'static str, &'static str) {
+        match self {
+            Manner::Back => ("back", "write"),
+            Manner::BackAtFlush => ("back", "flush"),
+            Manner::Through => ("through", "write"),
+        }
+    }
+
+    /// When the writes of such a volume are acknowledged for good.
+    pub fn ack(self) -> Ack {
+        match self {
+            Manner::Back | Manner::Through => Ack::Write,
+            Manner::BackAtFlush => Ack::Flush,
+        }
+    }
+}
+
 /// The options with which a small volume is made.
 #[derive(Clone, Copy)]
 pub struct Shape {
-    /// Whether the volume writes through; otherwise it writes back.
-    pub through: bool,
+    /// How the volume takes a write.
+    pub manner: Manner,
     /// The number of erase blocks that hold whole groups, and the number that take writes.
     pub data: u64,
     pub log: u64,
@@ -22,16 +52,24 @@ pub struct Shape {
 /// A volume that writes back, whose table is full when all its groups are dirty.
 pub fn back(data: u64, log: u64) -> Shape {
     Shape {
-        through: false,
+        manner: Manner::Back,
         data,
         log,
         dirty: data,
     }
 }
 
+/// The same, but the flash has a block after the next flush at the latest.
+pub fn at_flush(data: u64, log: u64) -> Shape {
+    Shape {
+        manner: Manner::BackAtFlush,
+        ..back(data, log)
+    }
+}
+
 /// A volume of two groups that writes through.
 pub const THROUGH: Shape = Shape {
-    through: true,
+    manner: Manner::Through,
     data: 2,
     log: 2,
     dirty: 1,
@@ -47,7 +85,7 @@ pub struct Outcome {
 
 /// The words of a command over such a volume, some in one word and some in two.
 fn words_of(alloc: Global, command: &str, shape: &Shape) -> Result<Vec<String>, AllocError> {
-    let mode = if shape.through { "through" } else { "back" };
+    let (mode, ack) = shape.manner.words();
     let mut words = Vec::new(alloc);
     words.push(String::from_str(alloc, command)?)?;
     words.push(String::from_str(alloc, "--pages=4")?)?;
@@ -60,6 +98,7 @@ fn words_of(alloc: Global, command: &str, shape: &Shape) -> Result<Vec<String>, 
     words.push(format!(in alloc; "--dirty={}", shape.dirty)?)?;
     words.push(String::from_str(alloc, "--mode")?)?;
     words.push(String::from_str(alloc, mode)?)?;
+    words.push(format!(in alloc; "--ack={ack}")?)?;
     Ok(words)
 }
 
@@ -107,10 +146,10 @@ pub fn sweep_on(
 }
 
 /// A volume of two to five groups. Any of them may have to give way for the four groups that are written.
-pub fn shape_of(words: &mut Lcg64Xsh32, through: bool) -> Shape {
+pub fn shape_of(words: &mut Lcg64Xsh32, manner: Manner) -> Shape {
     let data = 2 + words.next_word() as u64 % 4;
     Shape {
-        through,
+        manner,
         data,
         log: 2 + words.next_word() as u64 % 3,
         dirty: 1 + words.next_word() as u64 % data,

@@ -1,8 +1,13 @@
 ghost use Rattle.std.specs.Prelude.{◌≡◌};
+ghost use Rattle.trace_model.specs.Plain.{AreAddressed};
 
 use ft_base::{Ack, Geometry, Mode, Outcome};
+use std::alloc::{AllocError, Global};
 use std::test::Fail;
-use trace_model::{Answer, Line, Plan, Ran, plain_backs, plain_end, plain_fits, plain_told};
+use trace_model::{
+    Answer, Line, Looked, Plan, Ran, least_lost, plain_backs, plain_end, plain_fits, plain_told,
+    reading_back_tells_the_disk, the_front_tells,
+};
 
 fn ran(line: Line, cuts: u64, kept: u64) -> Ran
     ensures { result ≡ record { line = line; cuts = cuts; kept = kept; lost = 0 } }
@@ -73,7 +78,7 @@ fn an_end_has_counts_and_a_digest(rt: HostRuntime) -> Result<(), Fail> {
     let first = ran(write(5, 1, 7), 0, 1);
     let here = ran(Line::Read { lba: 5, count: 1 }, 0, 0);
     let there = ran(Line::Read { lba: 6, count: 1 }, 0, 0);
-    let end = plain_end(rt.alloc(), &[there, here, first])?;
+    let end = plain_end(rt.alloc(), &[there, here, first], 0)?;
     let wanted = Answer::End {
         writes: 1,
         reads: 2,
@@ -81,7 +86,7 @@ fn an_end_has_counts_and_a_digest(rt: HostRuntime) -> Result<(), Fail> {
         digest: *b"\x22\x7d\x37\x4b\xf9\x0b\x30\xcb\x01\x9f\xe5\x15\x8a\x70\x6a\x1b\xfa\xf9\xe9\x5d\x5f\xd3\x7c\x69\x07\xf7\xaf\x0c\xd4\xbd\x04\x83",
     };
     assert_eq!(rt; end, wanted);
-    let end = plain_end(rt.alloc(), &[])?;
+    let end = plain_end(rt.alloc(), &[], 0)?;
     let wanted = Answer::End {
         writes: 0,
         reads: 0,
@@ -156,6 +161,147 @@ fn each_kind_of_line_is_cut_so_often_at_most(rt: HostRuntime) -> Result<(), Fail
     assert!(rt; !plain_fits(alloc, Ack::Write, &[ran(Line::Nothing, 1, 0), stop(1)])?);
     Ok(())
 }
+
+// ---- lost block writes
+
+fn losing(line: Line, cuts: u64, kept: u64, lost: u64) -> Ran
+    ensures { result ≡ record { line = line; cuts = cuts; kept = kept; lost = lost } }
+{
+    Ran {
+        line,
+        cuts,
+        kept,
+        lost,
+    }
+}
+
+fn cut_losing(lost: u64) -> Ran
+    ensures { result ≡ record { line = Line.Cut Outcome.Blank; cuts = 0; kept = 0; lost = lost } }
+{
+    let outcome = Outcome::Blank;
+    losing(Line::Cut { outcome }, 0, 0, lost)
+}
+
+/// Five blocks are written. The cut loses the newest three, and a read shows the block that was there before.
+#[test]
+fn a_cut_loses_the_newest_block_writes(rt: HostRuntime) -> Result<(), Fail> {
+    let first = ran(write(0, 3, 9), 0, 3);
+    let second = ran(write(1, 2, 7), 0, 2);
+    let read = ran(Line::Read { lba: 0, count: 3 }, 0, 0);
+    let told = plain_told(rt.alloc(), &[read, cut_losing(3), second, first])?;
+    let wanted = [
+        Answer::Wrote { lba: 0, count: 3 },
+        Answer::Wrote { lba: 1, count: 2 },
+        Answer::Lost { count: 3 },
+        Answer::Cut,
+        Answer::ReadBack { lba: 0, tag: 9 },
+        Answer::ReadBack { lba: 1, tag: 9 },
+        Answer::ReadBack { lba: 2, tag: 0 },
+    ];
+    assert_eq!(rt; told.as_slice(), wanted.as_slice());
+    Ok(())
+}
+
+/// A stop cuts a write and loses one block write before it, so none of its own blocks counts.
+#[test]
+fn a_cut_write_may_lose_what_came_before(rt: HostRuntime) -> Result<(), Fail> {
+    let cut = losing(write(4, 2, 7), 1, 0, 1);
+    let told = plain_told(rt.alloc(), &[cut, stop(3), ran(write(0, 1, 9), 0, 1)])?;
+    let wanted = [
+        Answer::Wrote { lba: 0, count: 1 },
+        Answer::Stopped,
+        Answer::Lost { count: 1 },
+        Answer::Kept { kept: 0, count: 2 },
+    ];
+    assert_eq!(rt; told.as_slice(), wanted.as_slice());
+    Ok(())
+}
+
+fn digest_of(end: Answer) -> [u8; 32] {
+    match end {
+        Answer::End { digest, .. } => digest,
+        _ => [0; 32],
+    }
+}
+
+/// A block whose write was lost counts in the digest as it was before.
+#[test]
+fn an_end_may_lose_block_writes(rt: HostRuntime) -> Result<(), Fail> {
+    let alloc = rt.alloc();
+    let (old, new) = (ran(write(5, 1, 7), 0, 1), ran(write(5, 1, 8), 0, 1));
+    let lost = digest_of(plain_end(alloc, &[new, old], 1)?);
+    assert_eq!(rt; lost, digest_of(plain_end(alloc, &[old], 0)?));
+    assert!(rt; lost != digest_of(plain_end(alloc, &[new, old], 0)?));
+    let all = digest_of(plain_end(alloc, &[new, old], 2)?);
+    let read = ran(Line::Read { lba: 5, count: 1 }, 0, 0);
+    assert_eq!(rt; all, digest_of(plain_end(alloc, &[read], 0)?));
+    Ok(())
+}
+
+fn fits_later(alloc: Global, run: &[Ran]) -> Result<bool, AllocError>
+    requires { AreAddressed run.now }
+{
+    plain_fits(alloc, Ack::Flush, run)
+}
+
+#[test]
+fn only_a_cut_loses_what_no_flush_put_on_the_media(rt: HostRuntime) -> Result<(), Fail> {
+    let alloc = rt.alloc();
+    let one = ran(write(0, 1, 9), 0, 1);
+    let read = Line::Read { lba: 0, count: 1 };
+    assert!(rt; fits_later(alloc, &[cut_losing(1), one])?);
+    assert!(rt; !plain_fits(alloc, Ack::Write, &[cut_losing(1), one])?);
+    assert!(rt; !fits_later(alloc, &[cut_losing(2), one])?);
+    assert!(rt; !fits_later(alloc, &[cut_losing(1), ran(Line::Flush, 0, 0), one])?);
+    assert!(rt; fits_later(alloc, &[cut_losing(1), one, ran(Line::Flush, 0, 0)])?);
+    assert!(rt; !fits_later(alloc, &[cut_losing(1), cut_losing(1), one])?);
+    assert!(rt; !fits_later(alloc, &[losing(read, 0, 0, 1), one])?);
+    assert!(rt; fits_later(alloc, &[losing(read, 1, 0, 1), stop(5), one])?);
+    Ok(())
+}
+
+#[test]
+fn the_first_lost_block_write_changed_the_disk(rt: HostRuntime) -> Result<(), Fail> {
+    let alloc = rt.alloc();
+    let one = ran(write(0, 1, 9), 0, 1);
+    assert!(rt; !fits_later(alloc, &[cut_losing(1), one, one])?);
+    assert!(rt; fits_later(alloc, &[cut_losing(2), one, one])?);
+    let cut = write(1, 2, 9);
+    assert!(rt; fits_later(alloc, &[losing(cut, 1, 0, 1), stop(5), one])?);
+    assert!(rt; !fits_later(alloc, &[losing(cut, 1, 1, 1), stop(5), one])?);
+    Ok(())
+}
+
+#[test]
+fn at_most_126_block_writes_are_lost(rt: HostRuntime) -> Result<(), Fail> {
+    let alloc = rt.alloc();
+    let many = ran(write(0, 200, 9), 0, 200);
+    assert!(rt; fits_later(alloc, &[cut_losing(126), many])?);
+    assert!(rt; !fits_later(alloc, &[cut_losing(127), many])?);
+    Ok(())
+}
+
+fn looked(lba: u64, shows: bool) -> Looked {
+    Looked { lba, shows }
+}
+
+/// Address 0 is written twice, and address 1 between these writes. The newest write comes first.
+#[test]
+fn the_least_number_of_lost_block_writes_is_found(rt: HostRuntime) {
+    reading_back_tells_the_disk();
+    the_front_tells();
+    assert_eq!(rt; least_lost(&[]), 0);
+    let none = [looked(0, true), looked(1, true), looked(0, false)];
+    assert_eq!(rt; least_lost(&none), 0);
+    let newest = [looked(0, false), looked(1, true), looked(0, true)];
+    assert_eq!(rt; least_lost(&newest), 1);
+    let two = [looked(0, false), looked(1, false), looked(0, true)];
+    assert_eq!(rt; least_lost(&two), 2);
+    let all = [looked(0, false), looked(1, false), looked(0, false)];
+    assert_eq!(rt; least_lost(&all), 3);
+}
+
+// ---- blocks that go to the disk
 
 fn wrote(lba: u64, count: u64) -> Ran
     ensures { result ≡ record { line = Line.Write lba count 1; cuts = 0; kept = count; lost = 0 } }

@@ -162,7 +162,7 @@ fn first_misspelt(alloc: Global, rows: &[(Answer, &[u8])]) -> Result<Option<usiz
     Ok(None)
 }
 
-const ANSWERS: [(Answer, &[u8]); 8] = [
+const ANSWERS: [(Answer, &[u8]); 10] = [
     (
         Answer::Wrote {
             lba: 0,
@@ -172,6 +172,8 @@ const ANSWERS: [(Answer, &[u8]); 8] = [
     ),
     (Answer::Stopped, b"stopped"),
     (Answer::Kept { kept: 2, count: 10 }, b"kept 2 of 10"),
+    (Answer::Lost { count: 1 }, b"lost 1"),
+    (Answer::Lost { count: 126 }, b"lost 126"),
     (Answer::ReadBack { lba: 0, tag: 7 }, b"read 0 7"),
     (Answer::Flushed, b"flushed"),
     (Answer::Idle, b"idle"),
@@ -230,7 +232,7 @@ fn an_answer_is_put_behind_others(rt: HostRuntime) -> Result<(), Fail> {
 }
 
 /// Lines that are the print of no answer.
-const MISSPELT: [&[u8]; 15] = [
+const MISSPELT: [&[u8]; 20] = [
     b"",
     b"wrote 00 1",
     b"wrote 1  2",
@@ -240,6 +242,11 @@ const MISSPELT: [&[u8]; 15] = [
     b"wrote 18446744073709551616 1",
     b"stopped ",
     b"kept 1 off 2",
+    b"lost",
+    b"lost 0",
+    b"lost 01",
+    b"lost 1 2",
+    b"lost 18446744073709551616",
     b"line 1 BadWord",
     b"line 1:: BadWord",
     b"line : BadWord",

@@ -1,4 +1,6 @@
 //! Scripts over streams: the text that they print, and the lines that they read.
+ghost use Rattle.std.specs.Prelude.{All, IfOk};
+ghost use Rattle.trace_model.specs.Text.{IsTold};
 
 use ft_base::{Geometry, MemSink, MemSource};
 use std::alloc::{AllocError, Global};
@@ -21,7 +23,9 @@ fn source_of(
 }
 
 /// Prints an answer by a script without lines.
-fn say(alloc: Global, sink: &mut MemSink, answer: Answer) -> Result<Result<(), Ended>, AllocError> {
+fn say(alloc: Global, sink: &mut MemSink, answer: Answer) -> Result<Result<(), Ended>, AllocError>
+    requires { IsTold answer }
+{
     let mut source = source_of(alloc, b"", 1, &[])?;
     let mut script = StreamScript::new(alloc, &mut source, sink, 64);
     Ok(script.answer(&answer))
@@ -32,7 +36,9 @@ fn say_all(
     alloc: Global,
     sink: &mut MemSink,
     answers: &[Answer],
-) -> Result<Result<(), Ended>, AllocError> {
+) -> Result<Result<(), Ended>, AllocError>
+    requires { All IsTold answers.now }
+{
     let mut source = source_of(alloc, b"", 1, &[])?;
     let mut script = StreamScript::new(alloc, &mut source, sink, 64);
     Ok(script.answers(answers))
@@ -49,7 +55,9 @@ fn answers_are_printed_as_far_as_there_is_room(rt: HostRuntime) -> Result<(), Fa
 }
 
 /// The answers to a read of `count` blocks.
-fn read_backs(alloc: Global, count: u64) -> Result<Vec<Answer>, AllocError> {
+fn read_backs(alloc: Global, count: u64) -> Result<Vec<Answer>, AllocError>
+    ensures { IfOk result (λ answers. All IsTold answers.items) }
+{
     let mut answers = Vec::new(alloc);
     for lba in 0..count {
         answers.push(Answer::ReadBack { lba, tag: u64::MAX })?;

@@ -3,7 +3,7 @@
 use command_line::{
     Command, Devices, FlashKind, Parity, Spoken, TraceForm, command_law, command_of,
 };
-use ft_base::Outcome;
+use ft_base::{Ack, Outcome};
 use ft_volume::{Mode, Options};
 use std::alloc::Global;
 use std::test::Fail;
@@ -253,6 +253,30 @@ const NO_DEVICES: [&str; 18] = [
 #[test]
 fn devices_are_said_by_their_words(rt: HostRuntime) -> Result<(), Fail> {
     assert_eq!(rt; first_command(rt.alloc(), &NO_DEVICES)?, None);
+    Ok(())
+}
+
+const NO_ACKS: [&str; 15] = [
+    "replay --ack",
+    "replay --ack=",
+    "replay --ack on",
+    "replay --ack Flush",
+    "replay --ack=write,flush",
+    "replay --ack flush write",
+    "replay --ack flush --ack=flush",
+    "replay --acks flush",
+    "replay --mode through --ack flush",
+    "replay --ack=flush --pages 4 --mode=through",
+    "gen --ack=flush --mode=through",
+    "inspect --mode=through --ack flush",
+    "cost --ack flush --form msr --mode through",
+    "sweep --mode through --outcome torn --ack=flush",
+    "inspect --ack 1",
+];
+
+#[test]
+fn only_a_write_back_acknowledges_before_the_flush(rt: HostRuntime) -> Result<(), Fail> {
+    assert_eq!(rt; first_command(rt.alloc(), &NO_ACKS)?, None);
     Ok(())
 }
 
@@ -612,6 +636,44 @@ fn all_commands_say_their_devices(rt: HostRuntime) -> Result<(), Fail> {
         match spoken_in(rt.alloc(), line)? {
             Some(spoken) => {
                 assert_eq!(rt; spoken.devices, Devices { flash, parity }, "{line}");
+            }
+            None => assert!(rt; false, "{line}"),
+        }
+    }
+    Ok(())
+}
+
+/// The options of the volume.
+fn options_in(command: &Command) -> Options {
+    match *command {
+        Command::Replay { options, .. }
+        | Command::Cost { options, .. }
+        | Command::Gen { options, .. }
+        | Command::Inspect { options, .. }
+        | Command::Sweep { options, .. } => options,
+    }
+}
+
+/// Lines, and when a write is on the media by their words.
+const ACKS: [(&str, Ack); 10] = [
+    ("replay", Ack::Write),
+    ("replay --ack write", Ack::Write),
+    ("replay --ack=flush", Ack::Flush),
+    ("replay --mode back --ack flush", Ack::Flush),
+    ("replay --ack=write --mode=through", Ack::Write),
+    ("replay --mode through", Ack::Write),
+    ("gen --ack flush --count 5", Ack::Flush),
+    ("inspect --pages 4 --ack=flush", Ack::Flush),
+    ("cost --form msr --ack flush", Ack::Flush),
+    ("sweep --ack flush --outcome blank", Ack::Flush),
+];
+
+#[test]
+fn all_commands_say_when_a_write_is_on_the_media(rt: HostRuntime) -> Result<(), Fail> {
+    for (line, ack) in ACKS {
+        match spoken_in(rt.alloc(), line)? {
+            Some(spoken) => {
+                assert_eq!(rt; options_in(&spoken.command).ack, ack, "{line}");
             }
             None => assert!(rt; false, "{line}"),
         }

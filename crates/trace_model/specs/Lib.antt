@@ -1,6 +1,7 @@
 pub mod Backs
 pub mod Fits
 pub mod Lines
+pub mod Lost
 pub mod Plain
 pub mod PlainTable
 pub mod Plan

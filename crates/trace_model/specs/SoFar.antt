@@ -12,7 +12,7 @@ use Rattle.trace_model.specs.declared.answer.Answer.TheVariants as answer
 use Rattle.trace_model.specs.declared.ran.Ran.{Ran}
 use Rattle.trace_model.specs.Readings.{Reading, accepted}
 use Rattle.trace_model.specs.Run.{answers_of, disk_without, disk_written, end_answers, lines_of, with_line, writes_after}
-use Rattle.trace_model.specs.Fits.{FitsRun, FitsEnd, FitsNext, armed_after, block_count, kept_since_flush, may_write}
+use Rattle.trace_model.specs.Fits.{FitsRun, FitsEnd, FitsNext, armed_after, block_count, kept_since_flush}
 
 -- ---- refusals
 
@@ -60,7 +60,7 @@ pub record AnswersLine (o : Told) (run : List Ran) (line : Line) (answers : List
   pub cuts : ℕ
   pub kept : ℕ
   pub lost : ℕ
-  pub fits : FitsNext o.ack (as_ran line cuts kept lost) (length (armed_after run)) (may_write run) (disk_without lost run)
+  pub fits : FitsNext o.ack (as_ran line cuts kept lost) run
   pub told : answers ≡ answers_of (as_ran line cuts kept lost) (disk_without lost run)
 
 -- the answers that come after the last line, however often the reads of the end are cut

@@ -1,5 +1,5 @@
 -- What the lines of a run ask for, one event after the other, and what is said of them at the end.
-use Rattle.std.proofs.Common.{◌≡◌, ◌+◌, ◌++◌, ℕ, Bool, List, [], ◌∷◌, length, map, Option, Some, None, Result, Ok, Err, OnOk, IfErr, IfSome, IsErrOf, refl, sym, ap, ◌∙◌, subst, arith}
+use Rattle.std.proofs.Common.{◌≡◌, ◌+◌, ◌++◌, ℕ, Bool, List, [], ◌∷◌, Option, Some, Result, Ok, Err, OnOk, IfErr, IfSome, IsErrOf, refl, sym, ap, ◌∙◌, subst, arith}
 use Rattle.std.specs.Prelude.{sum_by}
 use Rattle.std.proofs.lemmas.List.{append-nil}
 use Rattle.std.proofs.lemmas.List.Sums.{sum_by_push}
@@ -15,12 +15,11 @@ use Rattle.trace_model.specs.declared.line.LineError.{LineError}
 use Rattle.trace_model.specs.declared.ran.Ran.{Ran}
 use Rattle.trace_model.specs.Fits.{block_count}
 use Rattle.trace_model.specs.Readings.{Reading}
-use Rattle.trace_model.specs.Run.{lines_of, told}
 use Rattle.trace_replay.specs.declared.asked.Asked.{Asked}
 use Rattle.trace_replay.specs.declared.ended.Ended.{Ended}
 use Rattle.trace_replay.specs.Asked.{EndsLines, IsAskedBy, IsAskedIn, IsTotal, RunsLines, asked_reads, asked_writes, power_cut, power_cuts, read_blocks}
 use Rattle.trace_replay.specs.Events.{Event, NextRefused, answers_in, events_of, lines_given, refusal_after, taking}
-use Rattle.trace_replay.specs.Events.Event.{Gave, Took, Touched}
+use Rattle.trace_replay.specs.Events.Event.{Gave, Took}
 use Rattle.trace_replay.specs.Theorem.{EndsEarly}
 use Rattle.trace_replay.proofs.FromLemmas.{before_itself, lines_from}
 use Rattle.trace_replay.proofs.GivenLemmas.{answers_in-append, answers_in-run, lines_given-append, lines_given-run}

@@ -1,13 +1,13 @@
 -- What a call did to a volume that owes nothing, and what is left when the run goes on after it.
-use Rattle.std.proofs.Common.{◌≡◌, ◌≢◌, inl, inr, Bool, true, [], ◌∷◌, Result, Err, IsErrOf, refl, sym, ap, ◌∙◌, subst}
+use Rattle.std.proofs.Common.{◌≡◌, ◌≢◌, inl, inr, Bool, true, List, [], ◌∷◌, Result, Err, IsErrOf, refl, sym, ap, ◌∙◌, subst}
 use Rattle.ft_base.specs.Contents.{Contents, Image}
-use Rattle.ft_base.specs.PlainDisk.{PlainDisk}
+use Rattle.ft_base.specs.PlainDisk.{BlockWrite, PlainDisk}
 use Rattle.ft_base.specs.Told.{Told}
 use Rattle.ft_base.specs.declared.told.Ack.TheVariants as ack
 use Rattle.ft_media.specs.Passes.{Passes}
 use Rattle.ft_media.specs.Rig.{powered}
 use Rattle.ft_media.specs.State.{State}
-use Rattle.ft_volume.specs.Volume.{Call, Done, Fixes, Goes, VolumeState, WasOne, blames_media, volume_lost}
+use Rattle.ft_volume.specs.Volume.{Call, DoneOwing, Fixes, Goes, VolumeState, WasOne, blames_media, owing, volume_lost}
 use Rattle.ft_volume.specs.Standing.{StandFor}
 use Rattle.ft_volume.specs.declared.volume.VolumeError.{VolumeError}
 use Rattle.ft_volume.specs.declared.volume.VolumeError.TheVariants as volume
@@ -16,12 +16,14 @@ use Rattle.trace_replay.proofs.Words.{lost_by}
 use Rattle.trace_replay.proofs.WentLemmas.{WasCall, refused}
 
 -- each write is on the media when it answers
-pub one_call : {T : Type 0} (stands : Told → Image → PlainDisk → Type 0) (call : Call) (old new : VolumeState) (before after : Contents) (result : Result T VolumeError) (d : PlainDisk)
-    → (old.told.ack ≡ ack.Write → old.owed ≡ []) → (new.told.ack ≡ ack.Write → new.owed ≡ [])
+pub one_call : {T : Type 0} {was is : List BlockWrite → Type 0} (stands : Told → Image → PlainDisk → Type 0) (call : Call) (old new : VolumeState) (before after : Contents) (result : Result T VolumeError) (d : PlainDisk)
+    → (owed : List BlockWrite) × was owed
+    → ((owed : List BlockWrite) → old.told.ack ≡ ack.Write → was owed → owed ≡ []) → ((owed : List BlockWrite) → new.told.ack ≡ ack.Write → is owed → owed ≡ [])
     → old.told.ack ≡ ack.Write → new.told ≡ old.told
-    → Done stands call old new before after result → StandFor (stands old.told) before d → WasOne (stands new.told) call after result d
-one_call stands call old new before after result d none none_new at_write told done stood =
-    one_disk stands call old new before after result d (none at_write) (none_new (ap (λ (t : Told). t.ack) told ∙ at_write)) done stood
+    → DoneOwing was is stands call old new before after result → StandFor (stands old.told) before d → WasOne (stands new.told) call after result d
+one_call stands call old new before after result d some none none_new at_write told done stood =
+    let at = done some.0 some.1 in
+    one_disk stands call (owing old some.0) (owing new at.0) before after result d (none some.0 at_write some.1) (none_new at.0 (ap (λ (t : Told). t.ack) told ∙ at_write) at.1) at.2 stood
 
 lost_at : (T : Type 0) (e : VolumeError) → volume_lost {T = T} (Err e) ≡ lost_by e
 lost_at T volume.FlashFault = refl

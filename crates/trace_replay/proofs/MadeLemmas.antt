@@ -141,7 +141,7 @@ made_first g b = record { lines = refl; said = said_none b }
 
 -- no line answers an end line
 no_line : SkipsLines is_end
-no_line = record { wrote = λ lba count. refl; stopped = refl; kept = λ kept count. refl; read = λ lba tag. refl; flushed = refl; idle = refl; cut = refl }
+no_line = record { wrote = λ lba count. refl; stopped = refl; kept = λ kept count. refl; lost = λ _. refl; read = λ lba tag. refl; flushed = refl; idle = refl; cut = refl }
 
 ends_told : (run : List Ran) (answers : List Answer) (more : List Event) → answers_in more ≡ answers → ends_in (answers_in (events_of run ++ more)) ≡ ends_in answers
 ends_told run answers more is = said_of is_end no_line run answers more is

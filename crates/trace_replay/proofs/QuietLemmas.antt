@@ -1,5 +1,5 @@
 -- A script that says nothing but a refusal, one event after the other, and what a run of that script says.
-use Rattle.std.proofs.Common.{◌≡◌, ◌+◌, ◌++◌, ℕ, Bool, true, false, List, [], ◌∷◌, length, map, take, refl, sym, ap, ◌∙◌, subst, Option, Some, None}
+use Rattle.std.proofs.Common.{filter, ◌≡◌, ◌+◌, ◌++◌, ℕ, Bool, true, false, List, [], ◌∷◌, length, map, take, refl, sym, ap, ◌∙◌, subst, Option, Some, None}
 use Rattle.std.specs.Io.KnownBytes.{Appends, Keeps}
 use Rattle.std.proofs.lemmas.List.{append-nil}
 use Rattle.std.proofs.lemmas.List.Elements.{filter-append}
@@ -12,7 +12,7 @@ use Rattle.trace_model.specs.declared.line.Line.{Line}
 use Rattle.trace_model.specs.declared.line.LineError.{LineError}
 use Rattle.trace_model.specs.declared.ran.Ran.{Ran}
 use Rattle.trace_model.specs.Readings.{Reading, accepted}
-use Rattle.trace_model.specs.Run.{end_answers, end_of, stopped}
+use Rattle.trace_model.specs.Run.{end_answers, end_of, lost_told, stopped}
 use Rattle.trace_model.specs.Text.{text, text_of}
 use Rattle.trace_replay.specs.declared.reader.Reader.{Reader}
 use Rattle.trace_replay.specs.Commands.{TellsRefusalPart, is_refusal, refusals_in}
@@ -22,7 +22,7 @@ use Rattle.trace_replay.specs.Forms.{Form, ReadsBy, Says}
 use Rattle.trace_replay.specs.Quiet.{given_heard, heard, is_heard, lines_heard}
 use Rattle.trace_replay.specs.Said.{Said, SaidPart}
 use Rattle.trace_replay.specs.Stream.{BrokeStream, CameStream}
-use Rattle.trace_replay.proofs.ToldLemmas.{SkipsLines, none_stopped, said_of}
+use Rattle.trace_replay.proofs.ToldLemmas.{SkipsLines, none_lost, none_stopped, said_of}
 
 -- ---- the events that are heard
 
@@ -84,7 +84,7 @@ broke_refusal b y e cause broke = subst (λ (given : Answer). BrokeStream b y (h
 -- ---- what a run says
 
 no_line : SkipsLines is_refusal
-no_line = record { wrote = λ lba count. refl; stopped = refl; kept = λ kept count. refl; read = λ lba tag. refl; flushed = refl; idle = refl; cut = refl }
+no_line = record { wrote = λ lba count. refl; stopped = refl; kept = λ kept count. refl; lost = λ _. refl; read = λ lba tag. refl; flushed = refl; idle = refl; cut = refl }
 
 refusals_heard : (e : List Event) → answers_in (heard e) ≡ refusals_in (answers_in e)
 refusals_heard [] = refl
@@ -118,7 +118,11 @@ pub told_nothing : (a b : Option (List ℕ)) (run : List Ran) (cuts lost : ℕ) 
 told_nothing a b run cuts lost said = keeps a b (subst (λ (r : List Answer). Appends a b (text r)) none said)
   where
     none : refusals_in (end_answers run cuts lost) ≡ []
-    none = filter-append is_refusal (stopped cuts) (end_of lost run ∷ []) ∙ ap (λ (r : List Answer). r ++ []) (none_stopped is_refusal no_line cuts)
+    none =
+        filter-append is_refusal (stopped cuts) (lost_told lost ++ end_of lost run ∷ [])
+        ∙ ap (λ (r : List Answer). r ++ filter is_refusal (lost_told lost ++ end_of lost run ∷ [])) (none_stopped is_refusal no_line cuts)
+        ∙ filter-append is_refusal (lost_told lost) (end_of lost run ∷ [])
+        ∙ ap (λ (r : List Answer). r ++ []) (none_lost is_refusal no_line lost)
 
     keeps : (a b : Option (List ℕ)) → Appends a b [] → Keeps a b
     keeps None b said = tt

@@ -4,7 +4,7 @@ use Rattle.std.proofs.lemmas.Bool.{cases_Bool}
 use Rattle.std.proofs.lemmas.Bool.Decides.{nat_tests}
 use Rattle.std.proofs.lemmas.List.{length_push}
 use Rattle.ft_base.specs.Contents.{Image}
-use Rattle.ft_base.specs.PlainDisk.{PlainDisk, empty}
+use Rattle.ft_base.specs.PlainDisk.{BlockWrite, PlainDisk, empty}
 use Rattle.ft_base.specs.StreamState.{SinkState, SourceState}
 use Rattle.ft_base.specs.Told.{Told}
 use Rattle.ft_base.specs.declared.power.Stop.{Stop}
@@ -18,14 +18,19 @@ use Rattle.trace_model.specs.declared.line.Line.TheVariants as line
 use Rattle.trace_model.specs.declared.line.LineError.TheVariants.{TooManyStops}
 use Rattle.trace_model.specs.declared.ran.Ran.{Ran}
 use Rattle.trace_model.specs.Backs.{IsUncut, wrote_in}
-use Rattle.trace_model.specs.Fits.{FitsLine, FitsNext, FitsWrite, IsAtMost, armed_after, arming, block_count, may_still, may_write}
+use Rattle.trace_model.proofs.FitLemmas.{lost_none}
+use Rattle.trace_model.specs.Fits.{FitsLine, FitsLost, FitsNext, FitsWrite, IsAtMost, armed_after, arming, block_count, may_still, may_write}
 use Rattle.trace_model.specs.Readings.{Reading}
-use Rattle.trace_model.specs.Run.{after_line, cut_count, cuts_in, disk_after, disk_without, lines_of, read_count, reads_in, touching, write_count, writes_in}
+use Rattle.trace_model.specs.Run.{after_line, cut_count, cuts_in, disk_after, disk_without, lines_of, writes_after, read_count, reads_in, touching, write_count, writes_in}
 use Rattle.trace_model.specs.SoFar.{as_ran, is_stop, refusal_of, refusal_when}
 use Rattle.trace_model.proofs.RunLemmas.{disk_after-line, disk_without-none}
+use Rattle.trace_replay.specs.declared.recent.Recent.{Recent}
 use Rattle.trace_replay.specs.declared.tally.Tally.{Tally}
 use Rattle.trace_replay.specs.Ends.{BeginsRest, CanBecome, RunsLine}
 use Rattle.trace_replay.specs.Events.{Event, ScriptState}
+use Rattle.trace_replay.specs.Owing.{CanBecomeOwing, IsClear, Owing, OwesRun}
+use Rattle.trace_replay.proofs.LaterLemmas.{owes_nothing}
+use Rattle.trace_replay.proofs.OwingLemmas.{clear_owing}
 use Rattle.trace_replay.specs.Ran.{RunKeepsFrame, IsTallied, IsTallyOf, RanSoFar, RestWithin}
 use Rattle.trace_replay.specs.Said.{RoseAtLeast}
 use Rattle.trace_replay.specs.Spends.{IsQuiet, Spent, steps_of}
@@ -64,8 +69,8 @@ rest_by line.Idle stops new before after may is less begins rest = rest_same sto
 rest_by (line.Cut outcome) stops new before after may is less begins rest = rest_same stops new before after may is less rest
 rest_by line.Nothing stops new before after may is less begins rest = rest_same stops new before after may is less rest
 
-rest_more : (run : List Ran) (l : Line) (cuts kept : ℕ) (a b : State) → a.power.stops ≡ armed_after run → RunsLine l cuts a b → RestWithin (may_write run) a.power.stops a.power.rest → RestWithin (may_write (as_ran l cuts kept 0 ∷ run)) b.power.stops b.power.rest
-rest_more run l cuts kept a b armed runs rest = elim (cases_Bool (cuts == 0)) [
+rest_more : (run : List Ran) (l : Line) (cuts kept lost : ℕ) (a b : State) → a.power.stops ≡ armed_after run → RunsLine l cuts a b → RestWithin (may_write run) a.power.stops a.power.rest → RestWithin (may_write (as_ran l cuts kept lost ∷ run)) b.power.stops b.power.rest
+rest_more run l cuts kept lost a b armed runs rest = elim (cases_Bool (cuts == 0)) [
   | inl none ↦
       let zero_cuts : cuts ≡ 0 = eqb-true cuts 0 none in
       subst (λ t. RestWithin (cond t (may_still l (armed_after run) (may_write run)) None) b.power.stops b.power.rest) (sym none)
@@ -145,14 +150,15 @@ reads_few (ran ∷ run) =
 
 -- ---- the lines that were run
 
-pub so_far_none : (o : Told) (stands : Image → PlainDisk → Type 0) (s : State) (counted : Tally) (v : VolumeState) → v.told ≡ o → IsQuiet v s → v.table ≡ [] → ((a : ℕ) → v.held a ≡ false)
-    → o.dirty ≤ o.geometry.c → StandFor stands s.contents empty → IsTallyOf [] counted → RanSoFar o stands s s counted v []
-so_far_none o stands s counted v told quiet table none dirty stood tally = record {
+pub so_far_none : (o : Told) (owes : List BlockWrite → Type 0) (stands : Image → PlainDisk → Type 0) (s : State) (counted : Tally) (v : VolumeState) → v.told ≡ o → IsQuiet v s → v.table ≡ [] → ((a : ℕ) → v.held a ≡ false)
+    → o.dirty ≤ o.geometry.c → owes [] → StandFor stands s.contents empty → IsTallyOf [] counted → (recent : List Recent) → recent ≡ [] → RanSoFar o owes stands s s counted recent v []
+so_far_none o owes stands s counted v told quiet table held dirty none stood tally recent fresh = record {
   accepted = tt;
   fits = tt;
   on = quiet.on;
   shape = refl;
-  disk = stood;
+  owed = subst (λ (l : List Recent). OwesRun owes stands s.contents l []) (sym fresh) (owes_nothing owes stands s.contents [] none stood);
+  none = λ _. fresh;
   stops = quiet.unarmed;
   rest = tt;
   risen = λ below. omega arith;
@@ -160,11 +166,21 @@ so_far_none o stands s counted v told quiet table none dirty stood tally = recor
   programs = λ below. omega arith;
   ready = λ none block ready. ready;
   tally = tally;
-  spent = λ uncut. spent_fresh o v s told quiet table none;
+  spent = λ uncut. spent_fresh o v s told quiet table held;
   dirty = dirty;
 }
 
-module _ (o : Told) (stands : Image → PlainDisk → Type 0) (first a : State) (counted : Tally) (v : VolumeState) (run : List Ran) (so_far : RanSoFar o stands first a counted v run) where
+-- what fits if each write is on the media when it answers fits in any case
+fits_any : (k : Ack) (l : Line) (cuts kept : ℕ) (d : PlainDisk) → FitsLine ack.Write l cuts kept 0 d → FitsLine k l cuts kept 0 d
+fits_any k (line.Write lba count tag) cuts kept d fits = fits
+fits_any k (line.Read lba count) cuts kept d fits = fits
+fits_any k line.Flush cuts kept d fits = fits
+fits_any k line.Idle cuts kept d fits = λ _. fits refl
+fits_any k (line.Cut outcome) cuts kept d fits = λ _. fits refl
+fits_any k (line.Stop after outcome) cuts kept d fits = fits
+fits_any k line.Nothing cuts kept d fits = fits
+
+module _ (o : Told) {owes : List BlockWrite → Type 0} (stands : Image → PlainDisk → Type 0) (first a : State) (counted : Tally) {recent : List Recent} (v : VolumeState) (run : List Ran) (so_far : RanSoFar o owes stands first a counted recent v run) where
   -- a tally of a run counts its lines
   pub writes_counted : counted.writes ≤ counted.lines
   writes_counted =
@@ -192,26 +208,49 @@ module _ (o : Told) (stands : Image → PlainDisk → Type 0) (first a : State) 
       at_most x y z one two = omega arith
 
   -- whatever can become of a line fits
-  pub can_next : (l : Line) (cuts kept : ℕ) → o.ack ≡ ack.Write → CanBecome l cuts kept a.power (disk_after run) → FitsNext o.ack (as_ran l cuts kept 0) (length (armed_after run)) (may_write run) (disk_without 0 run)
-  can_next l cuts kept acked can = record {
+  pub can_next : (l : Line) (cuts kept : ℕ) → CanBecome l cuts kept a.power (disk_after run) → FitsNext o.ack (as_ran l cuts kept 0) run
+  can_next l cuts kept can = record {
     few = subst (λ (q : List Stop). cuts ≤ length q) so_far.stops can.few;
     allowed = λ none. within_may l (may_write run) so_far.rest (can.spends none);
-    line = subst (λ (d : PlainDisk). FitsLine o.ack l cuts kept 0 d) (sym (disk_without-none 0 run refl)) (subst (λ (k : Ack). FitsLine k l cuts kept 0 (disk_after run)) (sym acked) can.fits);
-    lost = refl;
+    line = subst (λ (d : PlainDisk). FitsLine o.ack l cuts kept 0 d) (sym (disk_without-none 0 run refl)) (fits_any o.ack l cuts kept (disk_after run) can.fits);
+    cut = λ _ _. refl;
+    losses = lost_none o.ack run 0 refl;
   }
 
+  pub can_next_owing : (l : Line) (cuts kept lost : ℕ) → o.ack ≡ ack.Flush → CanBecomeOwing l cuts kept lost a.power run → FitsNext o.ack (as_ran l cuts kept lost) run
+  can_next_owing l cuts kept lost acked can = record {
+    few = subst (λ (q : List Stop). cuts ≤ length q) so_far.stops can.few;
+    allowed = λ none. within_may l (may_write run) so_far.rest (can.spends none);
+    line = subst (λ (k : Ack). FitsLine k l cuts kept lost (disk_without lost run)) (sym acked) can.fits;
+    cut = can.cut;
+    losses = subst (λ (k : Ack). FitsLost k run lost) (sym acked) can.losses;
+  }
+
+  -- if each write is on the media when it answers, nothing is owed
+  pub clear_now : o.ack ≡ ack.Write → IsClear owes stands a.contents
+  clear_now acked =
+      let none : length recent ≡ 0 = ap (λ (l : List Recent). length l) (so_far.none acked) in
+      let clear = clear_owing owes stands a.contents (writes_after run) (subst (λ n. Owing owes stands a.contents n (writes_after run)) none so_far.owed.owing) in
+      record { nothing_owed = clear.0; disk = disk_after run; media = clear.1 }
+
+  pub disk_now : o.ack ≡ ack.Write → StandFor stands a.contents (disk_after run)
+  disk_now acked =
+      let none : length recent ≡ 0 = ap (λ (l : List Recent). length l) (so_far.none acked) in
+      (clear_owing owes stands a.contents (writes_after run) (subst (λ n. Owing owes stands a.contents n (writes_after run)) none so_far.owed.owing)).1
+
   -- one more line was run
-  pub so_far_more : (more : Image → PlainDisk → Type 0) (l : Line) (cuts kept : ℕ) (b : State) (new : Tally) (w : VolumeState) → o.ack ≡ ack.Write → refusal_of run l ≡ None → IsTallied l counted new
-      → b.power.on ≡ true → b.contents.shape ≡ a.contents.shape → (IsQuiet v a → IsUncut l → Spent (steps_of l) v w a b) → RunsLine l cuts a b → FitsLine ack.Write l cuts kept 0 (disk_after run)
-      → StandFor more b.contents (after_line l kept (disk_after run)) → RanSoFar o more first b new w (as_ran l cuts kept 0 ∷ run)
-  so_far_more more l cuts kept b new w acked none one on shape spent runs fits stood = record {
+  pub so_far_more : (owe : List BlockWrite → Type 0) (more : Image → PlainDisk → Type 0) (l : Line) (cuts kept lost : ℕ) (b : State) (new : Tally) (kept_now : List Recent) (w : VolumeState) → (o.ack ≡ ack.Write → kept_now ≡ []) → refusal_of run l ≡ None → IsTallied l counted new
+      → b.power.on ≡ true → b.contents.shape ≡ a.contents.shape → (IsQuiet v a → IsUncut l → Spent (steps_of l) v w a b) → RunsLine l cuts a b → FitsNext o.ack (as_ran l cuts kept lost) run
+      → OwesRun owe more b.contents kept_now (as_ran l cuts kept lost ∷ run) → RanSoFar o owe more first b new kept_now w (as_ran l cuts kept lost ∷ run)
+  so_far_more owe more l cuts kept lost b new kept_now w empty none one on shape spent runs fits owed = record {
     accepted = (none, so_far.accepted);
-    fits = (can_next l cuts kept acked (record { few = runs.few; spends = λ none some. let rest = runs.rest none some in omega arith; fits = fits }), so_far.fits);
+    fits = (fits, so_far.fits);
     on = on;
     shape = shape ∙ so_far.shape;
-    disk = subst (λ (d : PlainDisk). StandFor more b.contents d) (sym (disk_after-line (as_ran l cuts kept 0) run refl)) stood;
+    owed = owed;
+    none = empty;
     stops = runs.stops ∙ ap (λ (q : List Stop). arming l (drop cuts q)) so_far.stops;
-    rest = rest_more run l cuts kept a b so_far.stops runs so_far.rest;
+    rest = rest_more run l cuts kept lost a b so_far.stops runs so_far.rest;
     risen = risen_more (cuts_in run) (cuts + cut_count l) first.faults.cuts a.faults.cuts b.faults.cuts so_far.risen runs.risen;
     counts = counts_then first.counts a.counts b.counts so_far.counts runs.counts;
     programs = risen_more (wrote_in run) (if cuts == 0 then block_count l else 0) first.counts.programs a.counts.programs b.counts.programs so_far.programs (wrote_line l cuts a b runs);
@@ -222,13 +261,24 @@ module _ (o : Told) (stands : Image → PlainDisk → Type 0) (first a : State) 
       reads = one.reads ∙ ap (λ n. n + read_count l) so_far.tally.reads;
       touched = one.touched ∙ ap (λ (xs : List ℕ). touching l xs) so_far.tally.touched;
     };
-    spent = run_more o first a v run so_far.spent (as_ran l cuts kept 0) w b spent;
+    spent = run_more o first a v run so_far.spent (as_ran l cuts kept lost) w b spent;
     dirty = so_far.dirty;
   }
 
+  -- if each write is on the media when it answers
+  pub so_far_now : (owe : List BlockWrite → Type 0) (more : Image → PlainDisk → Type 0) (l : Line) (cuts kept : ℕ) (b : State) (new : Tally) (w : VolumeState) → o.ack ≡ ack.Write → refusal_of run l ≡ None → IsTallied l counted new
+      → b.power.on ≡ true → b.contents.shape ≡ a.contents.shape → (IsQuiet v a → IsUncut l → Spent (steps_of l) v w a b) → RunsLine l cuts a b → FitsLine ack.Write l cuts kept 0 (disk_after run)
+      → owe [] → StandFor more b.contents (after_line l kept (disk_after run)) → RanSoFar o owe more first b new recent w (as_ran l cuts kept 0 ∷ run)
+  so_far_now owe more l cuts kept b new w acked none one on shape spent runs fits nothing stood =
+      let one_more : Ran = as_ran l cuts kept 0 in
+      so_far_more owe more l cuts kept 0 b new recent w so_far.none none one on shape spent runs
+      (can_next l cuts kept (record { few = runs.few; spends = λ none some. let rest = runs.rest none some in omega arith; fits = fits }))
+      (subst (λ (k : List Recent). OwesRun owe more b.contents k (one_more ∷ run)) (sym (so_far.none acked))
+      (owes_nothing owe more b.contents (one_more ∷ run) nothing (subst (λ (d : PlainDisk). StandFor more b.contents d) (sym (disk_after-line one_more run refl)) stood)))
+
 -- the same for a volume with the same settings
-pub so_far_told : (o k : Told) (stands : Image → PlainDisk → Type 0) (first a : State) (counted : Tally) (v : VolumeState) (run : List Ran) → o ≡ k → RanSoFar o stands first a counted v run → RanSoFar k stands first a counted v run
-so_far_told o k stands first a counted v run same so_far = subst (λ (j : Told). RanSoFar j stands first a counted v run) same so_far
+pub so_far_told : (o k : Told) {owes : List BlockWrite → Type 0} (stands : Image → PlainDisk → Type 0) (first a : State) (counted : Tally) {recent : List Recent} (v : VolumeState) (run : List Ran) → o ≡ k → RanSoFar o owes stands first a counted recent v run → RanSoFar k owes stands first a counted recent v run
+so_far_told o k {owes} stands first a counted {recent} v run same so_far = subst (λ (j : Told). RanSoFar j owes stands first a counted recent v run) same so_far
 
 -- the lines that were counted, after one more
 pub lines_more : (run : List Ran) (one : Ran) (before after : ℕ) → before ≡ length (lines_of run) → after ≡ length (lines_of (one ∷ run)) → after ≡ before + 1

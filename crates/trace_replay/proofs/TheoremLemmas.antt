@@ -1,10 +1,12 @@
 -- How a run ends: the records of the theorem from what the lines left.
-use Rattle.std.proofs.Common.{◌≡◌, ◌≤◌, ◌+◌, ◌∷◌, ◌++◌, [], ℕ, Bool, true, false, List, Option, Some, None, Ok, Err, map, drop, inl, inr, length, refl, sym, ap, ◌∙◌, subst, append_assoc, arith}
+use Rattle.std.proofs.Common.{◌≡◌, ◌≤◌, ◌+◌, ◌-◌, ◌∷◌, ◌++◌, [], ℕ, Bool, true, false, List, Option, Some, None, Ok, Err, map, drop, inl, inr, length, refl, sym, ap, ◌∙◌, subst, append_assoc, arith}
+use Rattle.std.proofs.lemmas.Bool.{cases_lt}
 use Rattle.std.proofs.lemmas.List.{append-nil, length_push}
 use Rattle.ft_base.specs.Contents.{Contents, Image}
-use Rattle.ft_base.specs.PlainDisk.{PlainDisk}
+use Rattle.ft_base.specs.PlainDisk.{BlockWrite, PlainDisk}
 use Rattle.ft_base.specs.StreamState.{SinkState, SourceState}
 use Rattle.ft_base.specs.Told.{Told}
+use Rattle.ft_base.specs.declared.power.Outcome.{Outcome}
 use Rattle.ft_base.specs.declared.power.Stop.{Stop}
 use Rattle.ft_base.specs.declared.told.Ack.{Ack}
 use Rattle.ft_base.specs.declared.told.Ack.TheVariants as ack
@@ -19,30 +21,57 @@ use Rattle.trace_model.specs.declared.line.Line.TheVariants as line
 use Rattle.trace_model.specs.declared.line.LineError.{LineError}
 use Rattle.trace_model.specs.declared.ran.Ran.{Ran}
 use Rattle.trace_model.specs.Backs.{AreUncut, wrote_in}
-use Rattle.trace_model.specs.Fits.{FitsLost, armed_after}
+use Rattle.trace_model.specs.Fits.{FitsEnd, FitsLost, FitsNext, armed_after, block_count, is_cut, kept_since_flush}
 use Rattle.trace_model.specs.Readings.{Reading, accepted}
-use Rattle.trace_model.specs.Run.{after_line, answers_of, cuts_in, digest_of, disk_after, disk_without, end_answers, end_of, lines_of, reads_in, stopped, touched_after, writes_after, writes_in}
+use Rattle.trace_model.specs.Run.{after_line, answers_of, cuts_in, digest_of, disk_after, disk_without, disk_written, with_line, end_answers, end_of, lines_of, reads_in, stopped, touched_after, writes_after, writes_in}
 use Rattle.trace_model.specs.SoFar.{AnswersTo, MayTell, WasRun, as_ran, begun, begun_unless, blocks_unless, disk_within, next_refusal, refusal, refusal_of}
+use Rattle.trace_model.proofs.LossLemmas.{drop_own, drop_past}
 use Rattle.trace_model.proofs.RunLemmas.{disk_line, disk_without-none}
 use Rattle.trace_replay.specs.declared.ended.Ended.{Ended}
 use Rattle.trace_replay.specs.declared.ended.Ended.TheVariants as ended
+use Rattle.trace_replay.specs.declared.recent.Recent.{Recent}
 use Rattle.trace_replay.specs.declared.tally.Tally.{Tally}
+use Rattle.trace_replay.specs.AsMade.{IsAsMade}
 use Rattle.trace_replay.specs.Asked.{RunsLines}
 use Rattle.trace_replay.specs.Ends.{BreaksThrough, CanBecome, EndsEnd, EndsWithin, SaysThrough, StandForPart}
 use Rattle.trace_replay.specs.Events.{Breaks, BreaksBy, BreaksNext, CameBy, Event, KnowsGiven, KnowsLines, NextRefused, NextSaid, Says, ScriptState, events_of, lines_given, refusal_after, refused_for, taking}
 use Rattle.trace_replay.specs.Events.Event.{Gave, Took}
-use Rattle.trace_replay.specs.Ran.{RanSoFar}
-use Rattle.trace_replay.specs.Said.{Cuts, RoseAtLeast, Takes, TellsStops}
+use Rattle.trace_replay.specs.Owing.{EndsFlushed, EndsOwing, IsFlushed, StandForLater, StandForOlder}
+use Rattle.trace_replay.specs.Ran.{IsTallyOf, RanSoFar}
+use Rattle.trace_replay.specs.Said.{Cuts, RoseAtLeast, Takes, TellsStops, TookPart}
 use Rattle.trace_replay.specs.Spends.{IsQuiet, SpendsAtMost, Spent, fresh, steps_after, steps_of, touches_each}
-use Rattle.trace_replay.specs.Theorem.{EndsEarly, EndsPart, EndsRefused, EndsUnread, LeavesLines, LeavesRig, RunsWhole, StandForNext}
+use Rattle.trace_replay.specs.Theorem.{EndsEarly, EndsPart, EndsRefused, EndsUnread, LeavesLines, LeavesRig, RunsWhole, StandForNext, spent_by}
 use Rattle.trace_replay.proofs.BacksLemmas.{end_reads_few, end_writes_back, end_writes_none, lines_read_no_more, lines_write_back, reads_few, writes_none}
 use Rattle.trace_replay.proofs.CutsLemmas.{counts_none, counts_then}
 use Rattle.trace_replay.proofs.FromLemmas.{takes_from}
 use Rattle.trace_replay.proofs.GivenLemmas.{answers_in-taking, given_left, lines_given-next, lines_given-run, next_left, told_bytes-run}
-use Rattle.trace_replay.proofs.RanLemmas.{can_next, can_some}
+use Rattle.trace_replay.proofs.OwingLemmas.{older_owing}
+use Rattle.trace_replay.proofs.RanLemmas.{can_next, can_next_owing, can_some, so_far_none}
 use Rattle.trace_replay.proofs.SpendsLemmas.{run_begun, run_end, run_most, run_then}
 
 -- ---- the media
+
+the_none : (n : ℕ) → n ≤ 0 → n ≡ 0
+the_none n within = omega arith
+
+-- a line without its newest block writes
+drop_line : (l : Line) (n : ℕ) (ws : List BlockWrite) → block_count l ≤ n → drop n (with_line l (block_count l) ws) ≡ drop (n - block_count l) ws
+drop_line (line.Write lba count tag) n ws past = drop_past n lba tag count ws past
+drop_line (line.Read lba count) n ws past = ap (λ k. drop k ws) (omega arith)
+drop_line line.Flush n ws past = ap (λ k. drop k ws) (omega arith)
+drop_line line.Idle n ws past = ap (λ k. drop k ws) (omega arith)
+drop_line (line.Stop after outcome) n ws past = ap (λ k. drop k ws) (omega arith)
+drop_line (line.Cut outcome) n ws past = ap (λ k. drop k ws) (omega arith)
+drop_line line.Nothing n ws past = ap (λ k. drop k ws) (omega arith)
+
+keep_line : (l : Line) (n : ℕ) (ws : List BlockWrite) → n ≤ block_count l → drop n (with_line l (block_count l) ws) ≡ with_line l (block_count l - n) ws
+keep_line (line.Write lba count tag) n ws within = drop_own n lba tag count ws within
+keep_line (line.Read lba count) n ws within = ap (λ k. drop k ws) (the_none n within)
+keep_line line.Flush n ws within = ap (λ k. drop k ws) (the_none n within)
+keep_line line.Idle n ws within = ap (λ k. drop k ws) (the_none n within)
+keep_line (line.Stop after outcome) n ws within = ap (λ k. drop k ws) (the_none n within)
+keep_line (line.Cut outcome) n ws within = ap (λ k. drop k ws) (the_none n within)
+keep_line line.Nothing n ws within = ap (λ k. drop k ws) (the_none n within)
 
 after_none : (l : Line) (d : PlainDisk) → after_line l 0 d ≡ d
 after_none (line.Write lba count tag) d = refl
@@ -53,14 +82,48 @@ after_none (line.Stop after outcome) d = refl
 after_none (line.Cut outcome) d = refl
 after_none line.Nothing d = refl
 
-none_within : (run : List Ran) (left : List Reading) → disk_within run left 0 0 ≡ disk_after run
-none_within run [] = disk_without-none 0 run refl
-none_within run (Err cause ∷ left) = disk_without-none 0 run refl
-none_within run (Ok l ∷ left) = disk_line l 0 (drop 0 (writes_after run)) ∙ after_none l (disk_without 0 run) ∙ disk_without-none 0 run refl
+none_within : (run : List Ran) (left : List Reading) (lost : ℕ) → disk_within run left lost 0 ≡ disk_without lost run
+none_within run [] lost = refl
+none_within run (Err cause ∷ left) lost = refl
+none_within run (Ok l ∷ left) lost = disk_line l 0 (drop lost (writes_after run)) ∙ after_none l (disk_without lost run)
 
 -- nothing of the next line was written
 pub media_none : (o : Told) (stands : Image → PlainDisk → Type 0) (contents : Contents) (run : List Ran) (left : List Reading) → StandFor stands contents (disk_after run) → StandForNext o stands contents run left
-media_none o stands contents run left stood x now = (0, 0, record { blocks = omega arith; none = λ _. refl; since = omega arith; front = λ _. refl }, subst (λ (d : PlainDisk). stands x d) (sym (none_within run left)) (stood x now))
+media_none o stands contents run left stood x now = (0, 0, record { blocks = omega arith; none = λ _. refl; since = omega arith; front = λ _. refl }, subst (λ (d : PlainDisk). stands x d) (sym (none_within run left 0 ∙ disk_without-none 0 run refl)) (stood x now))
+
+-- nothing of the next line was written, and some block writes before it may be missing
+media_older : (o : Told) (stands : Image → PlainDisk → Type 0) (contents : Contents) (run : List Ran) (left : List Reading) (most : ℕ) → most ≤ kept_since_flush run → (o.ack ≡ ack.Write → most ≡ 0) → StandForOlder stands contents most (writes_after run) → StandForNext o stands contents run left
+media_older o stands contents run left most since none older x now =
+    let is = older x now in
+    let few = is.1 in (
+      is.0,
+      0,
+      record { blocks = omega arith; none = λ acked. (let no = none acked in omega arith); since = omega arith; front = λ _. refl },
+      subst (λ (d : PlainDisk). stands x d) (sym (none_within run left is.0)) is.2,
+    )
+
+-- some first blocks of the next line were written, or some before it are missing
+media_later : (o : Told) (stands : Image → PlainDisk → Type 0) (contents : Contents) (run : List Ran) (recent : List Recent) (l : Line) (left : List Reading) → o.ack ≡ ack.Flush → refusal_of run l ≡ None → length recent ≤ kept_since_flush run → StandForLater stands contents recent l run
+    → StandForNext o stands contents run (Ok l ∷ left)
+media_later o stands contents run recent l left acked none since later x now =
+    let is = later x now in
+    elim (cases_lt (block_count l) is.0) [
+      | inl past ↦
+          let lost : ℕ = is.0 - block_count l in
+          let few = is.1 in (
+            lost,
+            0,
+            record { blocks = omega arith; none = λ at_write. absurd (cc); since = omega arith; front = λ _. refl },
+            subst (λ (d : PlainDisk). stands x d) (ap disk_written (drop_line l is.0 (writes_after run) (omega arith)) ∙ sym (none_within run (Ok l ∷ left) lost)) is.2,
+          )
+      | inr within ↦
+          let kept : ℕ = block_count l - is.0 in (
+            0,
+            kept,
+            record { blocks = subst (λ (r : Option LineError). kept ≤ blocks_unless r l) (sym none) (omega arith); none = λ _. refl; since = omega arith; front = λ some. absurd (omega arith) },
+            subst (λ (d : PlainDisk). stands x d) (ap disk_written (keep_line l is.0 (writes_after run) within)) is.2,
+          )
+    ]
 
 -- some first blocks of the next line were written
 media_line : (o : Told) (stands : Image → PlainDisk → Type 0) (contents : Contents) (run : List Ran) (l : Line) (left : List Reading) → refusal_of run l ≡ None → StandForPart stands contents l (disk_after run) → StandForNext o stands contents run (Ok l ∷ left)
@@ -123,7 +186,7 @@ early_by o reads says short stands first now ended.Flash refused unread part = p
 early_by o reads says short stands first now ended.Disk refused unread part = part (λ is. cc) (λ is. cc)
 early_by o reads says short stands first now ended.Memory refused unread part = part (λ is. cc) (λ is. cc)
 
-module _ (o : Told) (stands : Image → PlainDisk → Type 0) (first a : State) (counted : Tally) (v : VolumeState) (run : List Ran) (so_far : RanSoFar o stands first a counted v run) where
+module _ (o : Told) {owes : List BlockWrite → Type 0} (stands : Image → PlainDisk → Type 0) (first a : State) (counted : Tally) {recent : List Recent} (v : VolumeState) (run : List Ran) (so_far : RanSoFar o owes stands first a counted recent v run) where
   lines_left : (all left : List Reading) → all ≡ map accepted (lines_of run) ++ left → WasRun o all run left
   lines_left all left front = record { lines = front; accepted = so_far.accepted; fits = so_far.fits }
 
@@ -147,21 +210,47 @@ module _ (o : Told) (stands : Image → PlainDisk → Type 0) (first a : State) 
       rig_unless None = rig_of (as_ran l 0 0 0 ∷ run) a so_far.on so_far.shape (counts_none a.counts) (run_begun o first a v run so_far.spent (steps_of l))
       rig_unless (Some cause) = rig_here
 
+  -- what counts for the calls of the disk
+  cut_rig : (outcome : Outcome) (lines : List Ran) (b : State) → b.power.on ≡ true → b.contents.shape ≡ first.contents.shape → NeverFall first.counts b.counts → RoseAtLeast (wrote_in run) first.counts.programs b.counts.programs → LeavesRig o first b (as_ran (line.Cut outcome) 0 0 0 ∷ run) lines
+  cut_rig outcome lines b on shape counts programs = record {
+    on = on;
+    shape = shape;
+    counts = counts;
+    programs = λ below. let rose = programs below in omega arith;
+    reads = record { few = λ uncut. absurd uncut.0 };
+    writes = record { none = λ uncut. absurd uncut.0 };
+  }
+
+  spent_any : (k : Ack) (lines : List Ran) (b : State) (left : List Reading) → LeavesRig o first b run lines → LeavesRig o first b (spent_by k run left) lines
+  spent_any ack.Write lines b left rig = rig
+  spent_any ack.Flush lines b [] rig = rig
+  spent_any ack.Flush lines b (Err cause ∷ left) rig = rig
+  spent_any ack.Flush lines b (Ok (line.Write lba count tag) ∷ left) rig = rig
+  spent_any ack.Flush lines b (Ok (line.Read lba count) ∷ left) rig = rig
+  spent_any ack.Flush lines b (Ok line.Flush ∷ left) rig = rig
+  spent_any ack.Flush lines b (Ok line.Idle ∷ left) rig = rig
+  spent_any ack.Flush lines b (Ok (line.Stop after outcome) ∷ left) rig = rig
+  spent_any ack.Flush lines b (Ok line.Nothing ∷ left) rig = rig
+  spent_any ack.Flush lines b (Ok (line.Cut outcome) ∷ left) rig = cut_rig outcome lines b rig.on rig.shape rig.counts rig.programs
+
+  media_here : (left : List Reading) → StandForNext o stands a.contents run left
+  media_here left = media_older o stands a.contents run left (length recent) so_far.owed.since (λ acked. ap (λ (l : List Recent). length l) (so_far.none acked)) (older_owing owes stands a.contents (length recent) (writes_after run) so_far.owed.owing)
+
   leaves_lines : (left : List Reading) → LeavesLines o stands first a run left
-  leaves_lines left = record { rig = rig_here; media = media_none o stands a.contents run left so_far.disk; stops = so_far.stops; risen = so_far.risen; ready = so_far.ready }
+  leaves_lines left = record { rig = rig_here; media = media_here left; stops = so_far.stops; risen = so_far.risen; ready = so_far.ready }
 
   -- some answer may be given to whatever line comes next
-  tells_some : o.ack ≡ ack.Write → (whole : Bool) (left : List Reading) → (due : List Answer) × MayTell o whole run left due
-  tells_some acked true [] = (end_answers run 0 0, record { cuts = 0; lost = 0; fits = record { few = omega arith; cut = λ _. refl; losses = none_lost o.ack run }; told = refl })
-  tells_some acked false [] = ([], refl)
-  tells_some acked whole (Err cause ∷ left) = (refusal run cause, may_refuse o run whole (Err cause ∷ left) cause refl)
-  tells_some acked whole (Ok l ∷ left) = let some = tells_line (refusal_of run l) in (some.0, may_answer o run whole l left some.0 some.1)
+  tells_some : (whole : Bool) (left : List Reading) → (due : List Answer) × MayTell o whole run left due
+  tells_some true [] = (end_answers run 0 0, record { cuts = 0; lost = 0; fits = record { few = omega arith; cut = λ _. refl; losses = none_lost o.ack run }; told = refl })
+  tells_some false [] = ([], refl)
+  tells_some whole (Err cause ∷ left) = (refusal run cause, may_refuse o run whole (Err cause ∷ left) cause refl)
+  tells_some whole (Ok l ∷ left) = let some = tells_line (refusal_of run l) in (some.0, may_answer o run whole l left some.0 some.1)
     where
       tells_line : (r : Option LineError) → (due : List Answer) × AnswersTo o r run l due
       tells_line (Some cause) = (refusal run cause, refl)
       tells_line None =
           let can = can_some a.power (disk_after run) l a.power.stops refl in
-          (answers_of (as_ran l can.0 can.1 0) (disk_without 0 run), record { cuts = can.0; kept = can.1; lost = 0; fits = can_next o stands first a counted v run so_far l can.0 can.1 acked can.2; told = refl })
+          (answers_of (as_ran l can.0 can.1 0) (disk_without 0 run), record { cuts = can.0; kept = can.1; lost = 0; fits = can_next o stands first a counted v run so_far l can.0 can.1 can.2; told = refl })
 
   -- before any answer of the next line was taken
   ends_before : (reads : ℕ → List Reading → Bool → Type 0) (says : List Ran → List Answer → Type 0) (short : List Ran → List Answer → Option Answer → Type 0) (e : Ended) (given : ℕ) (all : List Reading)
@@ -187,8 +276,8 @@ module _ (o : Told) (stands : Image → PlainDisk → Type 0) (first a : State) 
       queue = λ _. so_far.stops;
       fell = (0, omega arith, omega arith, so_far.stops);
     };
-    media = media_none o stands a.contents run left so_far.disk;
-    rig = rig_before left;
+    media = media_here left;
+    rig = spent_any o.ack (begun run left) a left (rig_before left);
   }
 
   stops_then : (e : Ended) (front : List Answer) (b : State) → TellsStops e front 0 a b a.power.stops → TellsStops e front (cuts_in run) first b (armed_after run)
@@ -226,38 +315,72 @@ module _ (o : Told) (stands : Image → PlainDisk → Type 0) (first a : State) 
       left_next = next_left run l given.all given.left given.front
 
       -- the run ended within that line
-      pub ends_within : (more : Image → PlainDisk → Type 0) (c : State) (e : Ended) → o.ack ≡ ack.Write → refusal_of run l ≡ None → c.power.on ≡ true → c.contents.shape ≡ a.contents.shape → NeverFall a.counts c.counts
-          → (IsQuiet v a → SpendsAtMost (steps_of l) v a c) → EndsWithin tells came broke knows e x y a c l (disk_after run) → StandForPart more c.contents l (disk_after run)
+      ends_line : (more : Image → PlainDisk → Type 0) (c : State) (e : Ended) (cuts kept lost : ℕ) → FitsNext o.ack (as_ran l cuts kept lost) run → refusal_of run l ≡ None
+          → (e ≡ ended.Trace → ⊥) → (e ≡ ended.Source → ⊥) → (took : TookPart e (Says came x y) (Breaks came broke x y) (answers_of (as_ran l cuts kept lost) (disk_without lost run))) → (took.rest ≡ [] → answers_of (as_ran l cuts kept lost) (disk_without lost run) ≡ [])
+          → TellsStops e took.front 0 a c a.power.stops → ((left : List Reading) → StandForNext o more c.contents run (Ok l ∷ left)) → ((left : List Reading) → LeavesRig o first c (spent_by o.ack run (Ok l ∷ left)) (as_ran l 0 0 0 ∷ run))
           → EndsEarly o (knows s y) (CameBy came s b y) (BreaksBy broke s b y) more first c e
-      ends_within more c e acked none on shape counts most within part = run_part o _ _ _ more first c e within.blamed.not_trace within.blamed.not_source (record {
+      ends_line more c e cuts kept lost fits none not_trace not_source took proper stops media rig = run_part o _ _ _ more first c e not_trace not_source (record {
         all = given.all;
         whole = given.whole;
         run = run;
         left = Ok l ∷ given.left;
-        due = answers_of (as_ran l within.cuts within.kept 0) (disk_after run);
+        due = answers_of (as_ran l cuts kept lost) (disk_without lost run);
         given = length (lines_given (events_of run ++ Gave l ∷ []));
         after = let many = given_next in omega (arith, many);
         next = let many = given_next in omega (arith, many);
         trace = knew _ given.all given.whole given.known;
         lines = lines_left given.all (Ok l ∷ given.left) left_next;
-        may = may_answer o run given.whole l given.left _ (subst (λ (r : Option LineError). AnswersTo o r run l (answers_of (as_ran l within.cuts within.kept 0) (disk_after run))) (sym none)
-            (record { cuts = within.cuts; kept = within.kept; lost = 0; fits = can_next o stands first a counted v run so_far l within.cuts within.kept acked within.can; told = ap (answers_of (as_ran l within.cuts within.kept 0)) (sym (disk_without-none 0 run refl)) }));
+        may = may_answer o run given.whole l given.left _ (subst (λ (r : Option LineError). AnswersTo o r run l (answers_of (as_ran l cuts kept lost) (disk_without lost run))) (sym none)
+            (record { cuts = cuts; kept = kept; lost = lost; fits = fits; told = refl }));
         part = record {
-          front = within.part.front;
-          rest = within.part.rest;
-          both = within.part.both;
-          taken = takes_from e (Says came x y) (CameBy came s b y run) (Breaks came broke x y) (BreaksBy broke s b y run) says_next breaks_next within.part.front within.part.rest within.part.taken;
+          front = took.front;
+          rest = took.rest;
+          both = took.both;
+          taken = takes_from e (Says came x y) (CameBy came s b y run) (Breaks came broke x y) (BreaksBy broke s b y run) says_next breaks_next took.front took.rest took.taken;
         };
-        proper = within.proper;
-        stops = stops_then e within.part.front c within.stops;
-        media = media_line o more c.contents run l given.left none part;
-        rig = subst (λ (why : Option LineError). LeavesRig o first c run (begun_unless why l run)) (sym none) (rig_of (as_ran l 0 0 0 ∷ run) c on (shape ∙ so_far.shape) counts (run_end o first a v run so_far.spent (steps_of l) c most));
+        proper = proper;
+        stops = stops_then e took.front c stops;
+        media = media given.left;
+        rig = subst (λ (why : Option LineError). LeavesRig o first c (spent_by o.ack run (Ok l ∷ given.left)) (begun_unless why l run)) (sym none) (rig given.left);
       })
 
+      -- each write is on the media when it answers
+      pub ends_within : (more : Image → PlainDisk → Type 0) (c : State) (e : Ended) → refusal_of run l ≡ None → c.power.on ≡ true → c.contents.shape ≡ a.contents.shape → NeverFall a.counts c.counts
+          → (IsQuiet v a → SpendsAtMost (steps_of l) v a c) → EndsWithin tells came broke knows e x y a c l (disk_after run) → StandForPart more c.contents l (disk_after run)
+          → EndsEarly o (knows s y) (CameBy came s b y) (BreaksBy broke s b y) more first c e
+      ends_within more c e none on shape counts most within part =
+          let same : disk_after run ≡ disk_without 0 run = sym (disk_without-none 0 run refl) in
+          let there = subst (λ (d : PlainDisk). (took : TookPart e (Says came x y) (Breaks came broke x y) (answers_of (as_ran l within.cuts within.kept 0) d)) × (took.rest ≡ [] → answers_of (as_ran l within.cuts within.kept 0) d ≡ []) × TellsStops e took.front 0 a c a.power.stops)
+          same (within.part, within.proper, within.stops) in
+          ends_line more c e within.cuts within.kept 0 (can_next o stands first a counted v run so_far l within.cuts within.kept within.can) none within.blamed.not_trace within.blamed.not_source
+          there.0 there.1 there.2 (λ left. media_line o more c.contents run l left none part)
+          (λ left. spent_any o.ack (as_ran l 0 0 0 ∷ run) c (Ok l ∷ left) (rig_of (as_ran l 0 0 0 ∷ run) c on (shape ∙ so_far.shape) counts (run_end o first a v run so_far.spent (steps_of l) c most)))
+
+      -- writes are on the media only after a flush
+      pub ends_owing : (more : Image → PlainDisk → Type 0) (c : State) (e : Ended) → o.ack ≡ ack.Flush → refusal_of run l ≡ None → c.power.on ≡ true → c.contents.shape ≡ a.contents.shape → NeverFall a.counts c.counts
+          → (IsQuiet v a → is_cut l ≡ false → SpendsAtMost (steps_of l) v a c) → EndsOwing tells came broke knows e x y a c l run → StandForLater more c.contents recent l run
+          → EndsEarly o (knows s y) (CameBy came s b y) (BreaksBy broke s b y) more first c e
+      ends_owing more c e acked none on shape counts most ends later =
+          ends_line more c e ends.cuts ends.kept ends.lost (can_next_owing o stands first a counted v run so_far l ends.cuts ends.kept ends.lost acked ends.can) none ends.blamed.not_trace ends.blamed.not_source
+          ends.part ends.proper ends.stops (λ left. media_later o more c.contents run recent l left acked none so_far.owed.since later)
+          (λ left. subst (λ (k : Ack). LeavesRig o first c (spent_by k run (Ok l ∷ left)) (as_ran l 0 0 0 ∷ run)) (sym acked) (rig_owing l on (shape ∙ so_far.shape) counts most left))
+        where
+          by : (m : Line) → is_cut m ≡ false → c.power.on ≡ true → c.contents.shape ≡ first.contents.shape → NeverFall a.counts c.counts → (IsQuiet v a → is_cut m ≡ false → SpendsAtMost (steps_of m) v a c) → LeavesRig o first c run (as_ran m 0 0 0 ∷ run)
+          by m plain on_now same never few = rig_of (as_ran m 0 0 0 ∷ run) c on_now same never (run_end o first a v run so_far.spent (steps_of m) c (λ quiet. few quiet plain))
+
+          rig_owing : (m : Line) → c.power.on ≡ true → c.contents.shape ≡ first.contents.shape → NeverFall a.counts c.counts → (IsQuiet v a → is_cut m ≡ false → SpendsAtMost (steps_of m) v a c) → (left : List Reading) → LeavesRig o first c (spent_by ack.Flush run (Ok m ∷ left)) (as_ran m 0 0 0 ∷ run)
+          rig_owing (line.Cut outcome) on_now same never few left = cut_rig outcome (as_ran (line.Cut outcome) 0 0 0 ∷ run) c on_now same (counts_then first.counts a.counts c.counts so_far.counts never) (programs_to c never)
+          rig_owing (line.Write lba count tag) on_now same never few left = by (line.Write lba count tag) refl on_now same never few
+          rig_owing (line.Read lba count) on_now same never few left = by (line.Read lba count) refl on_now same never few
+          rig_owing line.Flush on_now same never few left = by line.Flush refl on_now same never few
+          rig_owing line.Idle on_now same never few left = by line.Idle refl on_now same never few
+          rig_owing (line.Stop after outcome) on_now same never few left = by (line.Stop after outcome) refl on_now same never few
+          rig_owing line.Nothing on_now same never few left = by line.Nothing refl on_now same never few
+
       -- memory ran out before the line was counted
-      pub ends_uncounted : o.ack ≡ ack.Write → came s b (events_of run ++ Gave l ∷ []) y → EndsEarly o (knows s y) (CameBy came s b y) (BreaksBy broke s b y) stands first a ended.Memory
-      ends_uncounted acked now =
-          let some = tells_some acked given.whole (Ok l ∷ given.left) in
+      pub ends_uncounted : came s b (events_of run ++ Gave l ∷ []) y → EndsEarly o (knows s y) (CameBy came s b y) (BreaksBy broke s b y) stands first a ended.Memory
+      ends_uncounted now =
+          let some = tells_some given.whole (Ok l ∷ given.left) in
           run_part o _ _ _ stands first a ended.Memory (λ is. cc) (λ is. cc)
           (ends_before (knows s y) (CameBy came s b y) (BreaksBy broke s b y) ended.Memory _ given.all given.whole (Ok l ∷ given.left) some.0 (let many = given_next in omega (arith, many)) (let many = given_next in omega (arith, many)) (knew _ given.all given.whole given.known) left_next some.1 (Gave l ∷ [], refl, now))
 
@@ -334,10 +457,10 @@ module _ (o : Told) (stands : Image → PlainDisk → Type 0) (first a : State) 
         )
 
     -- or while something was said for a line that has no answer
-    pub ends_said : o.ack ≡ ack.Write → NextSaid knows s y (events_of run) → broke s b (events_of run) (Gave line.Nothing) y → EndsPart o (knows s y) (CameBy came s b y) (BreaksBy broke s b y) stands first a ended.Sink
-    ends_said acked next broken =
+    pub ends_said : NextSaid knows s y (events_of run) → broke s b (events_of run) (Gave line.Nothing) y → EndsPart o (knows s y) (CameBy came s b y) (BreaksBy broke s b y) stands first a ended.Sink
+    ends_said next broken =
         let can : CanBecome line.Nothing 0 0 a.power (disk_after run) = record { few = omega arith; spends = λ _ _. omega arith; fits = refl } in
-        let none : AnswersTo o (refusal_of run line.Nothing) run line.Nothing [] = record { cuts = 0; kept = 0; lost = 0; fits = can_next o stands first a counted v run so_far line.Nothing 0 0 acked can; told = refl } in
+        let none : AnswersTo o (refusal_of run line.Nothing) run line.Nothing [] = record { cuts = 0; kept = 0; lost = 0; fits = can_next o stands first a counted v run so_far line.Nothing 0 0 can; told = refl } in
         ends_before (knows s y) (CameBy came s b y) (BreaksBy broke s b y) ended.Sink _ next.all next.whole (Ok line.Nothing ∷ next.left) [] (let many = given_here in omega (arith, many)) (let many = given_here in omega (arith, many)) next.known
         (left_here (events_of run) next.all (Ok line.Nothing ∷ next.left) refl next.front) (may_answer o run next.whole line.Nothing next.left [] none) (
           line.Nothing,
@@ -347,22 +470,22 @@ module _ (o : Told) (stands : Image → PlainDisk → Type 0) (first a : State) 
         )
 
     -- the sink failed in one of these two ways
-    pub ends_asked : (armed : ℕ) → armed ≡ length a.power.stops → o.ack ≡ ack.Write → BreaksNext knows broke s b (events_of run) armed y → EndsPart o (knows s y) (CameBy came s b y) (BreaksBy broke s b y) stands first a ended.Sink
-    ends_asked armed armed_is acked broken = elim broken [
+    pub ends_asked : (armed : ℕ) → armed ≡ length a.power.stops → BreaksNext knows broke s b (events_of run) armed y → EndsPart o (knows s y) (CameBy came s b y) (BreaksBy broke s b y) stands first a ended.Sink
+    ends_asked armed armed_is broken = elim broken [
       | inl refused ↦ ends_sink armed refused.0 armed_is refused.1 refused.2
-      | inr said ↦ ends_said acked said.0 said.1
+      | inr said ↦ ends_said said.0 said.1
     ]
 
     -- memory ran out before the next line
-    pub ends_memory : o.ack ≡ ack.Write → KnowsGiven knows s y (events_of run ++ []) → came s b (events_of run ++ []) y → EndsPart o (knows s y) (CameBy came s b y) (BreaksBy broke s b y) stands first a ended.Memory
-    ends_memory acked given now =
-        let some = tells_some acked given.whole given.left in
+    pub ends_memory : KnowsGiven knows s y (events_of run ++ []) → came s b (events_of run ++ []) y → EndsPart o (knows s y) (CameBy came s b y) (BreaksBy broke s b y) stands first a ended.Memory
+    ends_memory given now =
+        let some = tells_some given.whole given.left in
         ends_before (knows s y) (CameBy came s b y) (BreaksBy broke s b y) ended.Memory _ given.all given.whole given.left some.0 (let many = given_silent in omega (arith, many)) (let many = given_silent in omega (arith, many)) given.known (left_here (events_of run ++ []) given.all given.left (append-nil (events_of run)) given.front) some.1 ([], refl, now)
 
     -- ---- the end line
 
     module _ (come : came s b (events_of run) x) (known : KnowsLines knows s x (events_of run) true) (knew : (lines : ℕ) (all : List Reading) (whole : Bool) → knows s x lines all whole → knows s y lines all whole)
-        (more : Image → PlainDisk → Type 0) (c : State) (stood : StandFor more c.contents (disk_after run)) (on : c.power.on ≡ true) (shape : c.contents.shape ≡ a.contents.shape) (counts : NeverFall a.counts c.counts) where
+        (more : Image → PlainDisk → Type 0) (c : State) (on : c.power.on ≡ true) (shape : c.contents.shape ≡ a.contents.shape) (counts : NeverFall a.counts c.counts) where
       through : (answers : List Answer) → SaysThrough came x y answers → CameBy came s b y run answers
       through answers says = says s b (events_of run) come (told_bytes-run run)
 
@@ -374,23 +497,22 @@ module _ (o : Told) (stands : Image → PlainDisk → Type 0) (first a : State) 
       rig_end most = record { on = on; shape = shape ∙ so_far.shape; counts = counts_then first.counts a.counts c.counts so_far.counts counts; programs = programs_to c counts; reads = end_reads_few o run first c most; writes = end_writes_none o run first c most so_far.dirty }
 
       -- the end line was said
-      pub ends_whole : (w : VolumeState) (cuts : ℕ) → (IsQuiet v a → Spent (touches_each counted.touched.keys) v w a c) → Cuts cuts 0 a c
-          → SaysThrough came x y (stopped cuts ++ answer.End counted.writes counted.reads (length counted.touched.keys) (digest_of counted.touched.keys (disk_after run)) ∷ [])
+      ends_done : (w : VolumeState) (cuts lost : ℕ) → FitsEnd o.ack run cuts lost → StandFor more c.contents (disk_without lost run) → (IsQuiet v a → Spent (touches_each counted.touched.keys) v w a c) → Cuts cuts 0 a c → SaysThrough came x y (end_answers run cuts lost)
           → RunsWhole o (knows s y) (CameBy came s b y) more first c
-      ends_whole w cuts again cut said =
+      ends_done w cuts lost fits stood again cut said =
           let spent = run_then o first a v run so_far.spent (touches_each (touched_after run)) w c (λ quiet. subst (λ (keys : List ℕ). Spent (touches_each keys) v w a c) so_far.tally.touched (again quiet)) in
           record {
             all = map accepted (lines_given (events_of run));
             run = run;
             cuts = cuts;
-            lost = 0;
+            lost = lost;
             trace = subst (λ n. knows s y n (map accepted (lines_given (events_of run))) true) given_here (knew _ _ true known);
             lines = lines_left _ [] (all_given _ refl);
-            printed = through (end_answers run cuts 0) (subst (λ (z : Answer). SaysThrough came x y (stopped cuts ++ z ∷ [])) end_is said);
+            printed = through (end_answers run cuts lost) said;
             leaves = record {
               rig = rig_end (λ uncut. (spent uncut).most);
-              fits = record { few = subst (λ (q : List Stop). cuts ≤ length q) so_far.stops cut.few; cut = λ _. refl; losses = none_lost o.ack run };
-              disk = subst (λ (d : PlainDisk). StandFor more c.contents d) (sym (disk_without-none 0 run refl)) stood;
+              fits = fits;
+              disk = stood;
               stops = cut.stops ∙ ap (drop cuts) so_far.stops;
               risen = λ below. let two = cut.risen below in let one = so_far.risen (omega arith) in omega arith;
               ready = λ none block ready. cut.ready (omega arith) block (so_far.ready (omega arith) block ready);
@@ -398,30 +520,63 @@ module _ (o : Told) (stands : Image → PlainDisk → Type 0) (first a : State) 
             backs = end_writes_back o run first c w spent;
           }
 
+      pub ends_whole : (w : VolumeState) (cuts : ℕ) → StandFor more c.contents (disk_after run) → (IsQuiet v a → Spent (touches_each counted.touched.keys) v w a c) → Cuts cuts 0 a c
+          → SaysThrough came x y (stopped cuts ++ answer.End counted.writes counted.reads (length counted.touched.keys) (digest_of counted.touched.keys (disk_after run)) ∷ [])
+          → RunsWhole o (knows s y) (CameBy came s b y) more first c
+      ends_whole w cuts stood again cut said =
+          ends_done w cuts 0 (record { few = subst (λ (q : List Stop). cuts ≤ length q) so_far.stops cut.few; cut = λ _. refl; losses = none_lost o.ack run }) (subst (λ (d : PlainDisk). StandFor more c.contents d) (sym (disk_without-none 0 run refl)) stood) again cut
+          (subst (λ (z : Answer). SaysThrough came x y (stopped cuts ++ z ∷ [])) end_is said)
+
       -- the run ended within the end line
-      pub ends_end : (e : Ended) → (IsQuiet v a → SpendsAtMost (touches_each counted.touched.keys) v a c)
-          → EndsEnd tells came broke knows e x y a c (answer.End counted.writes counted.reads (length counted.touched.keys) (digest_of counted.touched.keys (disk_after run)))
+      ends_last : (e : Ended) (cuts lost : ℕ) → FitsEnd o.ack run cuts lost → ((left : List Reading) → StandForNext o more c.contents run left) → (IsQuiet v a → SpendsAtMost (touches_each counted.touched.keys) v a c)
+          → (took : TookPart e (SaysThrough came x y) (BreaksThrough came broke x y) (end_answers run cuts lost)) → (took.rest ≡ [] → ⊥) → TellsStops e took.front 0 a c a.power.stops
           → EndsPart o (knows s y) (CameBy came s b y) (BreaksBy broke s b y) more first c e
-      ends_end e again ends = record {
+      ends_last e cuts lost fits media again took proper stops = record {
         all = map accepted (lines_given (events_of run));
         whole = true;
         run = run;
         left = [];
-        due = stopped ends.cuts ++ answer.End counted.writes counted.reads (length counted.touched.keys) (digest_of counted.touched.keys (disk_after run)) ∷ [];
+        due = end_answers run cuts lost;
         given = length (lines_given (events_of run));
         after = let many = given_here in omega (arith, many);
         next = let many = given_here in omega (arith, many);
         trace = knew _ _ true known;
         lines = lines_left _ [] (all_given _ refl);
-        may = record { cuts = ends.cuts; lost = 0; fits = record { few = subst (λ (q : List Stop). ends.cuts ≤ length q) so_far.stops ends.few; cut = λ _. refl; losses = none_lost o.ack run }; told = ap (λ (z : Answer). stopped ends.cuts ++ z ∷ []) end_is };
+        may = record { cuts = cuts; lost = lost; fits = fits; told = refl };
         part = record {
-          front = ends.part.front;
-          rest = ends.part.rest;
-          both = ends.part.both;
-          taken = takes_from e (SaysThrough came x y) (CameBy came s b y run) (BreaksThrough came broke x y) (BreaksBy broke s b y run) through broken_through ends.part.front ends.part.rest ends.part.taken;
+          front = took.front;
+          rest = took.rest;
+          both = took.both;
+          taken = takes_from e (SaysThrough came x y) (CameBy came s b y run) (BreaksThrough came broke x y) (BreaksBy broke s b y run) through broken_through took.front took.rest took.taken;
         };
-        proper = λ none. absurd (ends.proper none);
-        stops = stops_then e ends.part.front c ends.stops;
-        media = media_none o more c.contents run [] stood;
-        rig = rig_end (run_end o first a v run so_far.spent (touches_each (touched_after run)) c (λ quiet. subst (λ (keys : List ℕ). SpendsAtMost (touches_each keys) v a c) so_far.tally.touched (again quiet)));
+        proper = λ none. absurd (proper none);
+        stops = stops_then e took.front c stops;
+        media = media [];
+        rig = spent_any o.ack run c [] (rig_end (run_end o first a v run so_far.spent (touches_each (touched_after run)) c (λ quiet. subst (λ (keys : List ℕ). SpendsAtMost (touches_each keys) v a c) so_far.tally.touched (again quiet))));
       }
+
+      pub ends_end : (e : Ended) → StandFor more c.contents (disk_after run) → (IsQuiet v a → SpendsAtMost (touches_each counted.touched.keys) v a c)
+          → EndsEnd tells came broke knows e x y a c (answer.End counted.writes counted.reads (length counted.touched.keys) (digest_of counted.touched.keys (disk_after run)))
+          → EndsPart o (knows s y) (CameBy came s b y) (BreaksBy broke s b y) more first c e
+      ends_end e stood again ends =
+          let there = subst (λ (z : Answer). (took : TookPart e (SaysThrough came x y) (BreaksThrough came broke x y) (stopped ends.cuts ++ z ∷ [])) × (took.rest ≡ [] → ⊥) × TellsStops e took.front 0 a c a.power.stops) end_is (ends.part, ends.proper, ends.stops) in
+          ends_last e ends.cuts 0 (record { few = subst (λ (q : List Stop). ends.cuts ≤ length q) so_far.stops ends.few; cut = λ _. refl; losses = none_lost o.ack run }) (λ left. media_none o more c.contents run left stood) again
+          there.0 there.1 there.2
+
+      -- the same, if writes are on the media only after a flush
+      pub ends_flushed : (w : VolumeState) (cuts lost : ℕ) → o.ack ≡ ack.Flush → IsFlushed came x y more c.contents cuts lost run → (IsQuiet v a → Spent (touches_each counted.touched.keys) v w a c) → Cuts cuts 0 a c → RunsWhole o (knows s y) (CameBy came s b y) more first c
+      ends_flushed w cuts lost acked is again cut =
+          ends_done w cuts lost (record { few = subst (λ (q : List Stop). cuts ≤ length q) so_far.stops cut.few; cut = is.cut; losses = subst (λ (k : Ack). FitsLost k run lost) (sym acked) is.losses }) is.disk again cut is.said
+
+      pub ends_unflushed : (e : Ended) → o.ack ≡ ack.Flush → StandForOlder more c.contents (kept_since_flush run) (writes_after run) → (IsQuiet v a → SpendsAtMost (touches_each counted.touched.keys) v a c) → EndsFlushed tells came broke knows e x y a c run → EndsPart o (knows s y) (CameBy came s b y) (BreaksBy broke s b y) more first c e
+      ends_unflushed e acked older again ends =
+          ends_last e ends.cuts ends.lost (record { few = subst (λ (q : List Stop). ends.cuts ≤ length q) so_far.stops ends.few; cut = ends.cut; losses = subst (λ (k : Ack). FitsLost k run ends.lost) (sym acked) ends.losses })
+          (λ left. media_older o more c.contents run left (kept_since_flush run) (omega arith) (λ at_write. absurd (cc)) older) again ends.part ends.proper ends.stops
+
+-- memory ran out before a line was asked for
+pub ends_begun : (o : Told) (owes : List BlockWrite → Type 0) (stands : Told → Image → PlainDisk → Type 0) (first : State) (counted : Tally) (v : VolumeState) → v.told ≡ o → IsAsMade owes stands v first → IsTallyOf [] counted
+    → {P : Type 0} (tells : P → ScriptState) (came : SourceState → SinkState → List Event → P → Type 0) (broke : SourceState → SinkState → List Event → Event → P → Type 0) (knows : SourceState → P → ℕ → List Reading → Bool → Type 0) (s : SourceState) (b : SinkState) (x : P)
+    → came s b [] x → KnowsGiven knows s x [] → EndsEarly o (knows s x) (CameBy came s b x) (BreaksBy broke s b x) (stands v.told) first first ended.Memory
+ends_begun o owes stands first counted v told fresh tally tells came broke knows s b x come given =
+    ends_memory o (stands v.told) first first counted v [] (so_far_none o owes (stands v.told) first counted v told (record { up = fresh.up; on = fresh.on; unarmed = fresh.unarmed }) fresh.table fresh.held (subst (λ (t : Told). t.dirty ≤ t.geometry.c) told fresh.dirty) fresh.nothing_owed fresh.empty tally [] refl)
+    tells came broke knows s b x x given come

@@ -10,7 +10,7 @@ use Rattle.trace_model.specs.declared.answer.Answer.TheVariants as answer
 use Rattle.trace_model.specs.declared.line.Line.{Line}
 use Rattle.trace_model.specs.declared.line.Line.TheVariants as line
 use Rattle.trace_model.specs.declared.ran.Ran.{Ran}
-use Rattle.trace_model.specs.Run.{answers_of, disk_without, own_answers, stopped, told}
+use Rattle.trace_model.specs.Run.{answers_of, disk_without, lost_told, own_answers, stopped, told}
 use Rattle.trace_replay.specs.Events.{Event, answers_in, events_of}
 use Rattle.trace_replay.proofs.GivenLemmas.{answers_in-append, answers_in-run}
 
@@ -19,6 +19,7 @@ pub record SkipsLines (says : Answer → Bool) : Type 0 where
   pub wrote : (lba count : ℕ) → says (answer.Wrote lba count) ≡ false
   pub stopped : says answer.Stopped ≡ false
   pub kept : (kept count : ℕ) → says (answer.Kept kept count) ≡ false
+  pub lost : (count : ℕ) → says (answer.Lost count) ≡ false
   pub read : (lba tag : ℕ) → says (answer.ReadBack lba tag) ≡ false
   pub flushed : says answer.Flushed ≡ false
   pub idle : says answer.Idle ≡ false
@@ -28,6 +29,10 @@ module _ (says : Answer → Bool) (skips : SkipsLines says) where
   pub none_stopped : (n : ℕ) → filter says (stopped n) ≡ []
   none_stopped zero = refl
   none_stopped (suc n) = rw skips.stopped (none_stopped n)
+
+  pub none_lost : (n : ℕ) → filter says (lost_told n) ≡ []
+  none_lost zero = refl
+  none_lost (suc n) = rw (skips.lost (suc n)) refl
 
   none_read : (disk : PlainDisk) (addresses : List ℕ) → filter says (map (λ a. answer.ReadBack a (tag_in (disk a))) addresses) ≡ []
   none_read disk [] = refl
@@ -52,7 +57,8 @@ module _ (says : Answer → Bool) (skips : SkipsLines says) where
   none_told [] = refl
   none_told (ran ∷ earlier) =
       let disk = disk_without ran.lost earlier in
-      none_then (told earlier) (answers_of ran disk) (none_told earlier) (none_then (stopped ran.cuts) (own_answers ran.line ran.cuts ran.kept disk) (none_stopped ran.cuts) (none_own ran.line ran.cuts ran.kept disk))
+      none_then (told earlier) (answers_of ran disk) (none_told earlier) (none_then (stopped ran.cuts) (lost_told ran.lost ++ own_answers ran.line ran.cuts ran.kept disk) (none_stopped ran.cuts)
+      (none_then (lost_told ran.lost) (own_answers ran.line ran.cuts ran.kept disk) (none_lost ran.lost) (none_own ran.line ran.cuts ran.kept disk)))
 
   -- so all that is said of a run comes after its lines
   pub said_of : (run : List Ran) (answers : List Answer) (more : List Event) → answers_in more ≡ answers → filter says (answers_in (events_of run ++ more)) ≡ filter says answers

@@ -1,20 +1,23 @@
 -- How a run of a trace ends, and what it leaves: the theorem.
-use Rattle.std.specs.Prelude.{◌≡◌, ◌≤◌, ◌+◌, ℕ, Bool, true, false, List, [], length, drop, Option, Some, Result, Ok, Err}
+use Rattle.std.specs.Prelude.{◌≡◌, ◌≤◌, ◌+◌, ℕ, Bool, true, false, List, [], ◌∷◌, length, drop, Option, Some, Result, Ok, Err}
 use Rattle.ft_base.specs.Contents.{Contents, Image, Now}
 use Rattle.ft_base.specs.PlainDisk.{PlainDisk}
 use Rattle.ft_base.specs.Told.{Told}
+use Rattle.ft_base.specs.declared.told.Ack.{Ack}
+use Rattle.ft_base.specs.declared.told.Ack.TheVariants.{Flush}
 use Rattle.ft_media.specs.Fitted.{KeepsReady}
 use Rattle.ft_media.specs.Passes.{NeverFall}
 use Rattle.ft_media.specs.State.{State}
 use Rattle.ft_volume.specs.Standing.{StandFor}
 use Rattle.trace_model.specs.declared.answer.Answer.{Answer}
+use Rattle.trace_model.specs.declared.line.Line.TheVariants as line
 use Rattle.trace_model.specs.declared.line.LineError.{LineError}
 use Rattle.trace_model.specs.declared.ran.Ran.{Ran}
 use Rattle.trace_model.specs.Backs.{ReadsFew, WritesBack, WritesNone, wrote_in}
 use Rattle.trace_model.specs.Fits.{FitsEnd, armed_after}
 use Rattle.trace_model.specs.Readings.{Reading}
 use Rattle.trace_model.specs.Run.{cuts_in, disk_without, end_answers, lines_of}
-use Rattle.trace_model.specs.SoFar.{MayRemain, MayTell, WasRun, begun, disk_within, next_refusal, refusal}
+use Rattle.trace_model.specs.SoFar.{MayRemain, MayTell, WasRun, as_ran, begun, disk_within, next_refusal, refusal}
 use Rattle.trace_replay.specs.declared.ended.Ended.{Ended}
 use Rattle.trace_replay.specs.declared.ended.Ended.TheVariants as ended
 use Rattle.trace_replay.specs.Said.{RoseAtLeast, TellsStops, TookPart}
@@ -41,6 +44,12 @@ pub record Leaves (o : Told) (stands : Image → PlainDisk → Type 0) (first no
   pub stops : now.power.stops ≡ drop cuts (armed_after run)
   pub risen : RoseAtLeast (cuts_in run + cuts) first.faults.cuts now.faults.cuts
   pub ready : cuts_in run + cuts ≡ 0 → KeepsReady first now
+
+-- the lines that count for the calls of the disk. If writes are on the media only after a flush, a line that cuts power
+-- reads back, so it counts from its beginning on
+abbrev pub spent_by : Ack → List Ran → List Reading → List Ran
+spent_by Flush run (Ok (line.Cut outcome) ∷ left) = as_ran (line.Cut outcome) 0 0 0 ∷ run
+spent_by ack run left = run
 
 -- whatever a crash leaves stands for the plain disk after these lines, with some first block writes of the next line
 abbrev pub StandForNext : Told → (Image → PlainDisk → Type 0) → Contents → List Ran → List Reading → Type 0
@@ -118,7 +127,7 @@ module _ (o : Told) (reads : ℕ → List Reading → Bool → Type 0) (says : L
     pub proper : part.rest ≡ [] → due ≡ []
     pub stops : TellsStops e part.front (cuts_in run) first now (armed_after run)
     pub media : StandForNext o stands now.contents run left
-    pub rig : LeavesRig o first now run (begun run left)
+    pub rig : LeavesRig o first now (spent_by o.ack run left) (begun run left)
 
   -- how a run ended early
   abbrev pub EndsEarly : Ended → Type 0

@@ -99,7 +99,7 @@ pub fn count_form<F: LineForm, I: Source, O: Sink, R: Rig, V: Volume<R>>(
     volume: &mut V,
 ) -> Result<Asked, Ended>
     requires owns { V.owns volume.old (R.state rig.old).contents }
-    requires fresh { IsAsMade V.stands (V.state volume.old) (R.state rig.old) }
+    requires fresh { IsAsMade (V.owes volume.old (R.state rig.old).contents) V.stands (V.state volume.old) (R.state rig.old) }
     ensures owner { StaysOwner (V.owns volume.new) (R.state rig.new).contents (V.state volume.old) (V.state volume.new) }
     ensures ends { EndsLines (V.state volume.old).told
         (ReadsBy (F.says (V.state volume.old).told.geometry.size) (I.state source.old) (I.state source.new))

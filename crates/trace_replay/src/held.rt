@@ -186,7 +186,7 @@ pub fn replay_held<O: Sink, R: Rig, V: Volume<R>>(
     requires few { length first.now + length lines.now < 2 ^ 64 }
     requires stops { stops_held (first.now ++ lines.now) ≤ 16 }
     requires owns { V.owns volume.old (R.state rig.old).contents }
-    requires fresh { IsAsMade V.stands (V.state volume.old) (R.state rig.old) }
+    requires fresh { IsAsMade (V.owes volume.old (R.state rig.old).contents) V.stands (V.state volume.old) (R.state rig.old) }
     ensures owner { StaysOwner (V.owns volume.new) (R.state rig.new).contents (V.state volume.old) (V.state volume.new) }
     ensures ends { EndsAs (V.state volume.old).told (Gives (first.now ++ lines.now))
         (Tells (O.state sink.old) (O.state sink.new)) (TellsPart (O.state sink.old) (O.state sink.new))

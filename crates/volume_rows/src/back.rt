@@ -13,7 +13,7 @@ ghost use Rattle.write_back.specs.Left as left;
 use crate::steps::{Step, block_of, first_wrong};
 use ft_base::{Block, Geometry, Outcome};
 use ft_media::{Media, Rig};
-use ft_volume::{Idled, Options, Report, VolumeError};
+use ft_volume::{Ack, Idled, Options, Report, VolumeError};
 use mem_rig::MemRig;
 use op_log::OpenError;
 use ssc::Ssc;
@@ -23,17 +23,18 @@ use write_back::WriteBack;
 
 /// A volume of 64 blocks on erase blocks of 4 pages, for two dirty groups; an idle step leaves one of them. Its log has
 /// 4 pages.
-fn options() -> Result<Options, Fail>
+pub(crate) fn options() -> Result<Options, Fail>
     ensures { IfOk result (λ options. 5 < options.geometry.size) }
 {
     Ok(Options {
         geometry: Geometry::new(4, 2, 2, 1, 64)?,
         dirty: 1,
+        ack: Ack::Write,
     })
 }
 
 /// A rig just large enough.
-fn fitted(alloc: Global, options: &Options) -> Result<MemRig, Fail>
+pub(crate) fn fitted(alloc: Global, options: &Options) -> Result<MemRig, Fail>
     ensures { IfOk result (λ rig. FitsOn options.now.geometry (state_of rig).contents.shape) }
 {
     let geometry = options.geometry;
@@ -43,7 +44,11 @@ fn fitted(alloc: Global, options: &Options) -> Result<MemRig, Fail>
 }
 
 /// A volume on that rig, to which nothing was written.
-fn created(alloc: Global, rig: &mut MemRig, options: &Options) -> Result<WriteBack, VolumeError>
+pub(crate) fn created(
+    alloc: Global,
+    rig: &mut MemRig,
+    options: &Options,
+) -> Result<WriteBack, VolumeError>
     requires { FitsOn options.now.geometry (state_of rig.old).contents.shape }
     ensures owns { IfOk result (λ v. IsLeft v (state_of rig.new).contents) }
     ensures told { IfOk result (λ v. (left.state_of v).told ≡ told_for Back options.now) }
@@ -126,9 +131,11 @@ fn first_wrong_anew(alloc: Global, steps: &[Step]) -> Result<Option<usize>, Fail
     Ok(first_wrong(&mut volume, &mut rig, steps))
 }
 
-const WRITTEN: [Step; 10] = [
+const WRITTEN: [Step; 12] = [
     Step::Size(64),
+    Step::Acks(Ack::Write),
     Step::Write(5, 7),
+    Step::Owed(0),
     Step::Read(5, 7),
     Step::Flush,
     Step::Down(false),

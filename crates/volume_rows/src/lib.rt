@@ -7,6 +7,8 @@
 #[cfg(test)]
 mod back;
 #[cfg(test)]
+mod later;
+#[cfg(test)]
 mod opening;
 #[cfg(test)]
 mod steps;

@@ -8,7 +8,7 @@ use crate::steps::block_of;
 use cached_disk::LoadedDisk;
 use ft_base::Geometry;
 use ft_media::{Counts, Rig};
-use ft_volume::{Mode, Options};
+use ft_volume::{Ack, Mode, Options};
 use mem_rig::MemRig;
 use ssc::{LoadedCache, Ssc};
 use std::alloc::Global;
@@ -21,6 +21,7 @@ fn options() -> Result<Options, Fail>
     Ok(Options {
         geometry: Geometry::new(4, 2, 2, 1, 64)?,
         dirty: 1,
+        ack: Ack::Write,
     })
 }
 

@@ -3,7 +3,7 @@ ghost use Rattle.ft_volume.specs.Volume.{StaysOwner};
 
 use ft_base::{Block, Outcome, pattern, tag_of, zero_block};
 use ft_media::{Media, Rig};
-use ft_volume::{Idled, Report, Volume, VolumeError};
+use ft_volume::{Ack, Idled, Report, Volume, VolumeError};
 
 /// A call of a volume with the answer that it must give, or a fact that must be seen.
 #[derive(Clone, Copy)]
@@ -28,6 +28,10 @@ pub(crate) enum Step {
         dirty_groups: u32,
         scrubbed: u64,
     },
+    /// When a write is on the media.
+    Acks(Ack),
+    /// How many writes are owed.
+    Owed(u32),
     /// Whether it is down.
     Down(bool),
     /// How many blocks it has.
@@ -149,6 +153,8 @@ fn agrees<R: Rig, V: Volume<R>>(volume: &mut V, rig: &mut R, step: Step) -> bool
             dirty_groups,
             scrubbed,
         } => reports(volume, rig, (held, dirty_groups, scrubbed)),
+        Step::Acks(ack) => volume.ack() == ack,
+        Step::Owed(count) => volume.owed() == count,
         Step::Down(down) => volume.is_down() == down,
         Step::Size(blocks) => volume.size() == blocks,
         Step::DiskReads(count) => rig.counts().disk_reads == count,

@@ -9,7 +9,7 @@ ghost use Rattle.write_through.specs.Left as left;
 use crate::steps::{Step, first_wrong};
 use ft_base::{Geometry, Outcome};
 use ft_media::Rig;
-use ft_volume::{Idled, Options, Report, Volume, VolumeError};
+use ft_volume::{Ack, Idled, Options, Report, Volume, VolumeError};
 use mem_rig::MemRig;
 use op_log::OpenError;
 use std::alloc::Global;
@@ -21,6 +21,7 @@ fn options() -> Result<Options, Fail> {
     Ok(Options {
         geometry: Geometry::new(4, 2, 2, 1, 64)?,
         dirty: 1,
+        ack: Ack::Write,
     })
 }
 
@@ -83,8 +84,10 @@ fn first_wrong_reopened(
 }
 
 // Two of the log's four pages are used: one by the eviction, one by the flush.
-const WRITTEN: [Step; 10] = [
+const WRITTEN: [Step; 12] = [
+    Step::Acks(Ack::Write),
     Step::Write(5, 7),
+    Step::Owed(0),
     Step::DiskWrites(1),
     Step::Read(5, 7),
     Step::Write(5, 9),

@@ -3,23 +3,30 @@ use Rattle.std.proofs.Common.{◌≡◌, ◌⊎◌, ℕ, ◌+◌, ◌/◌, ◌<�
 use Rattle.std.specs.Prelude.{OnErr, OnOk}
 use Rattle.std.specs.Option.{is_some}
 use Rattle.std.specs.FinMap.{get}
+use Rattle.std.specs.List.{list_any}
 use Rattle.std.proofs.lemmas.Bool.{and_parts, both_ways, cases_Bool, false≢true, or_cases, or_from}
 use Rattle.std.proofs.lemmas.Bool.Decides.{nat_tests}
 use Rattle.std.proofs.lemmas.List.Folds.{list_any_at, list_any_more}
 use Rattle.std.proofs.lemmas.List.{take_all}
 use Rattle.ft_base.specs.declared.block.Place.{Place}
 use Rattle.ft_base.specs.declared.block.Page.{Page}
-use Rattle.ft_base.specs.declared.geometry.Geometry.{Geometry}
 use Rattle.ft_base.specs.declared.told.Mode.{Mode}
 use Rattle.ft_base.specs.declared.told.Mode.TheVariants.{Back, Through}
 use Rattle.ft_base.specs.Contents.{Contents, Shape, Values}
-use Rattle.ft_base.specs.PlainDisk.{PlainDisk}
+use Rattle.ft_base.specs.PlainDisk.{BlockWrite, PlainDisk, after_writes}
 use Rattle.ft_base.proofs.Images.{newest_image, with_newest}
 use Rattle.ft_media.specs.State.{State}
 use Rattle.ft_media.specs.Drives.{DrivesFlash}
-use Rattle.ft_volume.specs.Opening.{Suits}
+use Rattle.ft_base.specs.Count.{RoseBy}
+use Rattle.ft_base.specs.Told.{Told}
+use Rattle.ft_base.specs.declared.told.Ack.TheVariants.{Write as AtWrite}
+use Rattle.ft_volume.specs.Opening.{ImageIs, Suits}
+use Rattle.ft_volume.specs.Standing.{StandFor}
+use Rattle.ft_volume.specs.Volume.{Flushes, Goes}
+use Rattle.ft_volume.proofs.UpLemmas.{goes_then}
+use Rattle.std.proofs.lemmas.Result.{on_err_weaker}
 use Rattle.ft_volume.specs.declared.volume.VolumeError.{VolumeError}
-use Rattle.cache_model.specs.Cache.{Cleaned, made_clean, marked_as, undo}
+use Rattle.cache_model.specs.Cache.{Cleaned, is_write, made_clean, marked_as, undo}
 use Rattle.cache_model.specs.CacheList.{Agrees, CacheList, Held, held_or}
 use Rattle.cache_model.specs.Stands.{FlashStandsFor}
 use Rattle.cache_model.proofs.UndoLemmas.{get_marked}
@@ -27,21 +34,21 @@ use Rattle.op_log.specs.Log.{FitsOn}
 use Rattle.ssc.specs.declared.cache.Ssc.{Ssc}
 use Rattle.ssc.specs.declared.error.SscError.{SscError}
 use Rattle.ssc.specs.declared.error.SscError.TheVariants.{Full, OutOfMemory}
-use Rattle.ssc.specs.CacheState.{Holds, geometry_of, pending}
+use Rattle.ssc.specs.CacheState.{Holds, entries_of, geometry_of, pending}
 use Rattle.ssc.specs.Commands.{HoldsPending, ImagesOf, FlashStandsForOne, AsUndone, AsBefore, AsAfter}
 use Rattle.ssc.specs.Errors.{ssc_failed, ssc_lost, stops}
 use Rattle.ssc.proofs.LosingLemmas.{pends_shapes}
 use Rattle.cached_disk.specs.declared.disk.CachedDisk.{CachedDisk}
 use Rattle.cached_disk.specs.Errors.{IsOfCache}
-use Rattle.cached_disk.specs.Kept.{IsBeneath, IsDirtyIn, IsHeld, IsLeft, MayUndo, dirty_of, is_down, told_of, WritesDisk}
+use Rattle.cached_disk.specs.Kept.{AsksNoDisk, IsBeneath, IsDirtyIn, IsHeld, IsLeft, KeepsOwed, MayUndo, Owes, Serves, StaysOwing, dirty_of, is_down, state_in, told_of, WritesDisk}
 use Rattle.cached_disk.proofs.DiskLemmas.{IsOver, one_value, over_stands}
 use Rattle.cache_model.proofs.CountLemmas.{equals_turned}
 use Rattle.cached_disk.proofs.StepLemmas.{IsSameOver, over_same}
-use Rattle.cached_disk.proofs.HeldLemmas.{Stays, down_left, drove, goes_on, held_agrees, held_at_write, held_beneath, held_left, held_over, held_stands, own_flash, step_beneath, step_over, stopped_down, undone_over}
-use Rattle.cached_disk.proofs.ReadLemmas.{none_pends}
+use Rattle.cached_disk.proofs.HeldLemmas.{Stays, down_left, drove, goes_on, held_agrees, held_beneath, held_left, held_no_write, own_flash, same_over, same_stands, step_beneath, step_over, stopped_down, undone_over}
+use Rattle.cached_disk.proofs.ReadLemmas.{none_owed, none_pends, owes_down, owes_none}
 use Rattle.cached_disk.proofs.CallLemmas.{gives_up}
-use Rattle.write_back.specs.Left.{in_group, out_of_group}
-use Rattle.write_back.specs.Cleaning.{IsFlushed, IsOnDisk, Proceeds, is_among}
+use Rattle.write_back.specs.Left.{StaysDirty, in_group, out_of_group}
+use Rattle.write_back.specs.Cleaning.{IsFlushed, IsOnDisk, Proceeds, WritesBack, is_among}
 use Rattle.cached_disk.proofs.AddressLemmas.{holds_held, holds_lbas, lbas_without}
 use Rattle.write_back.proofs.PartLemmas.{Answer, Answers, Refuses, answers_drive, proceeds_as, proceeds_down, proceeds_refused, proceeds_then, refuses_drive, writes_nothing}
 use Rattle.write_back.proofs.CopyLemmas.{dirty_is, holds_one, is_dirty}
@@ -85,7 +92,7 @@ module _ (lba : ℕ) (s : CacheList) where
   cleaned_other a f = cleaned_at a ∙ ap (λ c. cond c (option_map (marked_as false) (get s a)) (get s a)) f
 
 -- if all blocks are flushed and the disk has the address's block
-module _ (v : CachedDisk) (k : Ssc) (s t : State) (list : CacheList) (lba : ℕ) (own : geometry_of v.cache ≡ v.options.geometry) (shape : FitsOn v.options.geometry s.contents.shape) (is : IsHeld v s.contents list) (back : v.mode ≡ Back)
+module _ (v : CachedDisk) (k : Ssc) (s t : State) (list : CacheList) (lba : ℕ) (own : geometry_of v.cache ≡ v.options.geometry) (shape : FitsOn v.options.geometry s.contents.shape) (is : IsHeld v s.contents list) (no_write : list_any is_write (pending v.cache) ≡ false) (back : v.mode ≡ Back)
     (alone : IsFlushed s.contents) (on : IsOnDisk v s.contents lba) (stays : Stays s.contents t.contents) (fits : t.contents.shape ≡ s.contents.shape) (geometry : geometry_of k ≡ geometry_of v.cache) where
   abbrev after_clean : CacheList
   after_clean = made_clean lba list
@@ -122,7 +129,7 @@ module _ (v : CachedDisk) (k : Ssc) (s t : State) (list : CacheList) (lba : ℕ)
   cleaned_over d over = over_same v.options.geometry s.contents.disk list after_clean d (cleaned_same lba list s.contents.disk) over
 
   left_by : (page : Place → Page) → FlashStandsForOne (geometry_of v.cache) page (undo is.holds.waiting list) list after_clean → IsLeftBy page
-  left_by page (AsUndone x) = record { list_of = undo is.holds.waiting list; stands = own_flash v own page (undo is.holds.waiting list) x; agrees = (held_beneath v s.contents list own is).agrees; over = undone_over v s.contents list own is }
+  left_by page (AsUndone x) = record { list_of = undo is.holds.waiting list; stands = own_flash v own page (undo is.holds.waiting list) x; agrees = (held_beneath v s.contents list own is).agrees; over = undone_over v s.contents list own is no_write }
   left_by page (AsBefore x) = record { list_of = list; stands = own_flash v own page list x; agrees = held_agrees v s.contents list is; over = λ d over. over }
   left_by page (AsAfter x) = record { list_of = after_clean; stands = own_flash v own page after_clean x; agrees = cleaned_agrees; over = cleaned_over }
 
@@ -136,18 +143,19 @@ module _ (v : CachedDisk) (k : Ssc) (s t : State) (list : CacheList) (lba : ℕ)
         let x = left_by t.contents.flash.page one in
         proceeds_down v k v.down s t r 0 down reserved refuses
         (down_left (record v { cache = k }) t.contents x.list_of own_now fits_now down beneath)
-        (λ d stand. over_stands (told_of v) t.contents x.list_of beneath d (step_over v k s.contents t.contents stays x.list_of d (x.over d (held_over v s.contents list own is d stand))))
+        (λ d stand. over_stands (told_of v) t.contents x.list_of beneath d (step_over v k s.contents t.contents stays x.list_of d (x.over d (same_over v s.contents list own is no_write d stand))))
 
   -- the call was done
-  module _ (holds : Holds k t.contents after_clean) (may : MayUndo (told_of v) (pending k)) where
+  module _ (holds : Holds k t.contents after_clean) (may : MayUndo (told_of v) (pending k)) (none_now : list_any is_write (pending k) ≡ false) where
     pub held_clean : IsHeld (record v { cache = k }) t.contents after_clean
-    held_clean = held_at_write (record v { cache = k }) t.contents after_clean holds (λ a h b at clean has. cleaned_agrees a h b at clean (stays.had a b has))
+    held_clean = held_no_write (record v { cache = k }) t.contents after_clean none_now holds (λ a h b at clean has. cleaned_agrees a h b at clean (stays.had a b has))
         (λ a. inl (stays.settled a (alone a))) (any_suits after_clean) may
 
     pub clean_done : is_down (record v { cache = k }) ≡ false → k.ready ≡ v.cache.ready → Answers s t → WritesDisk 0 s t (Ok tt) → Proceeds 0 v (record v { cache = k }) s t (Ok tt)
     clean_done up reserved answers writes = record {
       left = held_left (record v { cache = k }) t.contents after_clean own_now held_clean fits_now;
-      stands = λ d stand. held_stands (record v { cache = k }) t.contents after_clean own_now held_clean d (step_over v k s.contents t.contents stays after_clean d (cleaned_over d (held_over v s.contents list own is d stand)));
+      settled = λ still. none_now;
+      stands = λ d stand. same_stands (record v { cache = k }) t.contents after_clean own_now held_clean none_now d (step_over v k s.contents t.contents stays after_clean d (cleaned_over d (same_over v s.contents list own is no_write d stand)));
       made = (refl, refl);
       reserved = reserved;
       held = λ now a. holds_held k t.contents after_clean holds a ∙ cleaned_held lba list a ∙ sym (holds_held v.cache s.contents list is.holds a);
@@ -208,27 +216,23 @@ module _ (v : CachedDisk) (k : Ssc) (s t : State) (list : CacheList) (lba : ℕ)
         ap (λ (f : ℕ → Values). (f a).newest) disk ∙ on_a list is.holds was.0 was.1 ∙ was.2
 
 -- no write waits after a clean
-pub cleaned_may : (v : CachedDisk) (k : Ssc) (s t : State) (lba : ℕ) (left : IsLeft v s.contents) → is_down v ≡ false → v.mode ≡ Back
+pub none_cleaned_waits : (v : CachedDisk) (k : Ssc) (s t : State) (lba : ℕ) (left : IsLeft v s.contents) → is_down v ≡ false → list_any is_write (pending v.cache) ≡ false
     → ((l : CacheList) (h : Holds v.cache s.contents l) → IsDirtyIn l lba → HoldsPending k t.contents (made_clean lba l) h.waiting (Cleaned lba))
-    → ((l : CacheList) → Holds v.cache s.contents l → (IsDirtyIn l lba → ⊥) → (k ≡ v.cache) × (t ≡ s)) → MayUndo (told_of v) (pending k)
-cleaned_may v k s t lba left up back of_dirty of_other = by (get left.held lba) refl
+    → ((l : CacheList) → Holds v.cache s.contents l → (IsDirtyIn l lba → ⊥) → (k ≡ v.cache) × (t ≡ s)) → list_any is_write (pending k) ≡ false
+none_cleaned_waits v k s t lba left up no_write of_dirty of_other = by (get left.held lba) refl
   where
     is : IsHeld v s.contents left.held
     is = left.up up
 
-    kept : (IsDirtyIn left.held lba → ⊥) → MayUndo (told_of v) (pending k)
-    kept none = subst (λ (c : Ssc). MayUndo (told_of v) (pending c)) (sym (of_other left.held is.holds none).0) is.may_undo
+    kept : (IsDirtyIn left.held lba → ⊥) → list_any is_write (pending k) ≡ false
+    kept none = subst (λ (c : Ssc). list_any is_write (pending c) ≡ false) (sym (of_other left.held is.holds none).0) no_write
 
-    more : IsDirtyIn left.held lba → MayUndo (told_of v) (pending k)
+    more : IsDirtyIn left.held lba → list_any is_write (pending k) ≡ false
     more dirty =
         let now = of_dirty left.held is.holds dirty in
-        let pends = pends_shapes v.cache k s.contents t.contents left.held (made_clean lba left.held) is.holds now.holds (Cleaned lba) now.pends in
-        record {
-          through = λ through. absurd (let both : Back ≡ Through = sym back ∙ through in cc);
-          at_write = λ at_write. none_pends (pending v.cache) (pending k) (Cleaned lba) refl pends (is.may_undo.at_write at_write);
-        }
+        none_pends (pending v.cache) (pending k) (Cleaned lba) refl (pends_shapes v.cache k s.contents t.contents left.held (made_clean lba left.held) is.holds now.holds (Cleaned lba) now.pends) no_write
 
-    by : (o : Option Held) → get left.held lba ≡ o → MayUndo (told_of v) (pending k)
+    by : (o : Option Held) → get left.held lba ≡ o → list_any is_write (pending k) ≡ false
     by None at = kept (λ dirty. let both : None ≡ Some dirty.0 = sym at ∙ dirty.1 in cc)
     by (Some h) at = elim (cases_Bool h.dirty) [
       | inl t ↦ more (h, at, t)
@@ -238,13 +242,20 @@ cleaned_may v k s t lba left up back of_dirty of_other = by (get left.held lba) 
           false≢true (sym f ∙ ap (λ (x : Held). x.dirty) same ∙ dirty.2))
     ]
 
+-- so what a crash may undo suits
+pub cleaned_may : (v : CachedDisk) (k : Ssc) → v.mode ≡ Back → list_any is_write (pending k) ≡ false → MayUndo (told_of v) (pending k)
+cleaned_may v k back no_write = record { through = λ through. absurd (let both : Back ≡ Through = sym back ∙ through in cc); at_write = λ at_write. no_write }
+
 -- once `clean` answered
 module _ (v : CachedDisk) (k : Ssc) (e : SscError) (full : (n limit : ℕ) → e ≡ Full n limit → ⊥) (memory : e ≡ OutOfMemory → ⊥) (stopped : k.stopped ≡ stops {T = Unit {0}} (Err e)) where
   pub once_stopped : is_down (record v { cache = k }) ≡ true
   once_stopped = stopped_down v k (stopped ∙ gives_up e full memory)
 
-module _ (v : CachedDisk) (k : Ssc) (s t : State) (lba : ℕ) (left : IsLeft v s.contents) (up : is_down v ≡ false) (back : v.mode ≡ Back) (alone : IsFlushed s.contents) (on : IsOnDisk v s.contents lba) (geometry : geometry_of k ≡ geometry_of v.cache) (reserved : k.ready ≡ v.cache.ready) where
-  module _ (drives : DrivesFlash s t false false) (done : (l : CacheList) → Holds v.cache s.contents l → Holds k t.contents (made_clean lba l)) (may : MayUndo (told_of v) (pending k)) where
+module _ (v : CachedDisk) (k : Ssc) (s t : State) (lba : ℕ) (left : IsLeft v s.contents) (up : is_down v ≡ false) (no_write : list_any is_write (pending v.cache) ≡ false) (back : v.mode ≡ Back) (alone : IsFlushed s.contents) (on : IsOnDisk v s.contents lba) (geometry : geometry_of k ≡ geometry_of v.cache) (reserved : k.ready ≡ v.cache.ready) where
+  module _ (drives : DrivesFlash s t false false) (done : (l : CacheList) → Holds v.cache s.contents l → Holds k t.contents (made_clean lba l)) (none_now : list_any is_write (pending k) ≡ false) where
+    abbrev may : MayUndo (told_of v) (pending k)
+    may = cleaned_may v k back none_now
+
     abbrev disk_stays : Stays s.contents t.contents
     disk_stays = drove s.contents t.contents false drives.disk drives.crash
 
@@ -253,22 +264,22 @@ module _ (v : CachedDisk) (k : Ssc) (s t : State) (lba : ℕ) (left : IsLeft v s
 
     pub once_clean : k.stopped ≡ false → Proceeds 0 v (record v { cache = k }) s t (Ok tt)
     once_clean goes =
-        clean_done v k s t left.held lba left.own left.shape (left.up up) back alone on disk_stays drives.passes.shape geometry holds_clean may
+        clean_done v k s t left.held lba left.own left.shape (left.up up) no_write back alone on disk_stays drives.passes.shape geometry holds_clean may none_now
         (or_from v.down k.stopped (goes_on v up).0 goes) reserved (answers_drive s t drives) (writes_nothing s t drives.disk_writes drives.disk_reads)
 
     pub once_cleaned : (a : ℕ) → is_among (dirty_of (record v { cache = k })) a ≡ (is_among (dirty_of v) a && not (lba == a))
-    once_cleaned = clean_dirty v k s t left.held lba left.own left.shape (left.up up) back alone on disk_stays drives.passes.shape geometry holds_clean may
+    once_cleaned = clean_dirty v k s t left.held lba left.own left.shape (left.up up) no_write back alone on disk_stays drives.passes.shape geometry holds_clean may none_now
 
     pub once_flushed : IsFlushed t.contents
     once_flushed a = disk_stays.settled a (alone a)
 
     pub once_on_disk : (a : ℕ) → IsOnDisk v s.contents a → IsOnDisk (record v { cache = k }) t.contents a
-    once_on_disk = clean_on_disk v k s t left.held lba left.own left.shape (left.up up) back alone on disk_stays drives.passes.shape geometry holds_clean may (drives.disk.stays refl)
+    once_on_disk = clean_on_disk v k s t left.held lba left.own left.shape (left.up up) no_write back alone on disk_stays drives.passes.shape geometry holds_clean may none_now (drives.disk.stays refl)
 
   pub once_refused : (e : SscError) (r : VolumeError) → IsOfCache e r → ((n limit : ℕ) → e ≡ Full n limit → ⊥) → (e ≡ OutOfMemory → ⊥) → k.stopped ≡ stops {T = Unit {0}} (Err e) → DrivesFlash s t (ssc_failed {T = Unit {0}} (Err e)) (ssc_lost {T = Unit {0}} (Err e))
       → ((l : CacheList) (h : Holds v.cache s.contents l) → ImagesOf v.cache t.contents (undo h.waiting l) l (made_clean lba l)) → Proceeds 0 v (record v { cache = k }) s t (Err r)
   once_refused e r is full memory stopped drives images =
-      clean_refused v k s t left.held lba left.own left.shape (left.up up) back alone on (drove s.contents t.contents (ssc_lost {T = Unit {0}} (Err e)) drives.disk drives.crash) drives.passes.shape geometry
+      clean_refused v k s t left.held lba left.own left.shape (left.up up) no_write back alone on (drove s.contents t.contents (ssc_lost {T = Unit {0}} (Err e)) drives.disk drives.crash) drives.passes.shape geometry
       (once_stopped v k e full memory stopped) (images left.held (left.up up).holds (with_newest t.contents) (newest_image t.contents)) r reserved (refuses_drive s t e r is memory drives)
 
 -- ---- a list of addresses
@@ -348,6 +359,87 @@ group_cleaned v w old new s t p n is now cleaned =
 
 pub group_among : (p n : ℕ) (xs lbas items : List ℕ) → lbas ≡ items → items ≡ in_group p n xs → (a : ℕ) → is_among lbas a ≡ true → is_among xs a ≡ true
 group_among p n xs lbas items are own a among = (and_parts (a / p == n) (is_among xs a) (sym (among_filter (λ k. k / p == n) xs a) ∙ sym (ap (λ (l : List ℕ). is_among l a) (are ∙ own)) ∙ among)).1
+
+-- ---- the owed writes are put on the flash first
+
+module _ (n : ℕ) (v u w : CachedDisk) (s m t : State) (r : Answer) (serves : Serves {T = Unit {0}} Flushes v u s m (Ok tt)) (none : AsksNoDisk s m) (no_write : list_any is_write (pending u.cache) ≡ false) (ready : u.cache.ready ≡ v.cache.ready)
+    (held : (a : ℕ) → is_some (get (entries_of u.cache) a) ≡ is_some (get (entries_of v.cache) a)) (then : Proceeds n u w m t r) where
+  told : told_of u ≡ told_of v
+  told = (serves.goes []).told
+
+  settled_owes : Owes w t.contents []
+  settled_owes = by (is_down w) refl
+    where
+      by : (b : Bool) → is_down w ≡ b → Owes w t.contents []
+      by true down = owes_down w t.contents down
+      by false up = owes_none w t.contents (then.settled up) then.left
+
+  settled_keeps : StaysOwing v w s.contents t.contents
+  settled_keeps owed owes =
+      let first = serves.keeps owed owes in
+      let nothing = none_owed u m.contents first.0 no_write first.1 in
+      ([], settled_owes, λ base stand. by owed first.0 base nothing (first.2 base stand))
+    where
+      over : (d : PlainDisk) → StandFor (ImageIs (told_of v)) m.contents d → StandFor (ImageIs (told_of v)) t.contents d
+      over d stand = subst (λ (x : Told). StandFor (ImageIs x) t.contents d) told (then.stands d (subst (λ (x : Told). StandFor (ImageIs x) m.contents d) (sym told) stand))
+
+      by : (owed left : List BlockWrite) (base : PlainDisk) → left ≡ [] → KeepsOwed (told_of v) m.contents (is_down u) owed left base → KeepsOwed (told_of v) t.contents (is_down w) owed [] base
+      by owed left base nothing (inl same) = inl (sym nothing ∙ same.0, over base same.1)
+      by owed left base nothing (inr (inl all)) = inr (inl (refl, over (after_writes owed base) all.1))
+      by owed left base nothing (inr (inr down)) = absurd (both_ways (is_down u) (serves.goes []).up down.0)
+
+  pub settled_back : WritesBack n v w s t r
+  settled_back = record {
+    left = then.left;
+    keeps = settled_keeps;
+    made = (then.made.0 ∙ serves.made.0, then.made.1 ∙ serves.made.1);
+    reserved = then.reserved ∙ ready;
+    held = λ up a. then.held up a ∙ held a;
+    goes = λ was is. goes_then (state_in was v) (state_in was v) (state_in was u) (state_in is w) s m t r refl (serves.goes was) (then.goes was is) then.faulted;
+    faulted = then.faulted;
+    writes = record {
+      exact = subst (λ (k : ℕ). OnOk r (RoseBy n k t.counts.disk_writes)) none.disk_writes then.writes.exact;
+      most = let x = then.writes.most in let y = none.disk_writes in omega (arith, x, y);
+      reads = then.writes.reads ∙ none.disk_reads;
+    };
+    within = then.within;
+  }
+
+  -- the blocks of the group are the same
+  pub settled_dirty : dirty_of u ≡ dirty_of v
+  settled_dirty = serves.dirty (serves.goes []).up
+
+  pub settled_same : ((told_of v).ack ≡ AtWrite → u ≡ v) → OnErr r (is_down w ≡ false → w ≡ u) → OnErr r (is_down w ≡ false → StaysDirty v w)
+  settled_same at_write same = on_err_weaker r (λ is up. record { dirty = ap (λ (x : CachedDisk). dirty_of x) (is up) ∙ settled_dirty; same = λ write. is up ∙ at_write write }) same
+
+-- that failed
+module _ (n : ℕ) (v u : CachedDisk) (s m : State) (e : VolumeError) (serves : Serves {T = Unit {0}} Flushes v u s m (Err e)) (none : AsksNoDisk s m) (ready : u.cache.ready ≡ v.cache.ready) (down : is_down u ≡ true) where
+  pub unsettled_back : WritesBack n v u s m (Err e)
+  unsettled_back = record {
+    left = serves.left;
+    keeps = serves.keeps;
+    made = serves.made;
+    reserved = ready;
+    held = λ up a. absurd (both_ways (is_down u) up down);
+    goes = λ was is. unsettled_goes was is;
+    faulted = record { flash = λ is. down; disk = λ is. down };
+    writes = record { exact = tt; most = let y = none.disk_writes in omega (arith, y); reads = none.disk_reads };
+    within = serves.within;
+  }
+    where
+      unsettled_goes : (was is : List ℕ) → Goes {T = Unit {0}} (state_in was v) (state_in is u) s m (Err e)
+      unsettled_goes was is =
+          let goes = serves.goes was in
+          record {
+            told = goes.told;
+            up = tt;
+            lost = goes.lost;
+            memory = goes.memory;
+            ready = goes.ready;
+            disk = goes.disk;
+            cause = goes.cause;
+            passes = goes.passes;
+          }
 
 -- ---- the whole write-back
 

@@ -27,7 +27,7 @@ use Rattle.op_log.specs.Log.{FitsOn}
 use Rattle.ssc.specs.declared.cache.Ssc.{Ssc}
 use Rattle.ssc.specs.declared.error.SscError.{SscError}
 use Rattle.ssc.specs.declared.error.SscError.TheVariants.{OutOfMemory}
-use Rattle.ssc.specs.CacheState.{Holds, geometry_of}
+use Rattle.ssc.specs.CacheState.{Holds, geometry_of, pending}
 use Rattle.ssc.specs.Commands.{ReadOf}
 use Rattle.ssc.specs.Errors.{ssc_failed, ssc_lost}
 use Rattle.cached_disk.specs.declared.disk.CachedDisk.{CachedDisk}
@@ -35,7 +35,7 @@ use Rattle.cached_disk.specs.Errors.{IsOfCache, disk_error}
 use Rattle.cached_disk.specs.Kept.{IsBeneath, IsDirtyIn, IsHeld, IsLeft, dirty_of, is_down, told_of, WritesDisk}
 use Rattle.cached_disk.proofs.DiskLemmas.{IsOver, over_stands}
 use Rattle.cached_disk.proofs.StepLemmas.{over_same, undo_agrees, undo_same}
-use Rattle.cached_disk.proofs.HeldLemmas.{down_left, held_agrees, held_at_write, held_beneath, held_left, held_over, holds_over, none_later}
+use Rattle.cached_disk.proofs.HeldLemmas.{down_left, held_agrees, held_beneath, held_left, held_no_write, holds_over, none_later, same_over}
 use Rattle.write_back.specs.Cleaning.{IsFlushed, IsOnDisk, Proceeds, is_among}
 use Rattle.cached_disk.proofs.AddressLemmas.{has_lba, holds_lbas, holds_within, lbas_dirty, lbas_has}
 use Rattle.write_back.proofs.PartLemmas.{Answers, CallsDisk, answers_disk, answers_read, lacks_memory, proceeds_down, proceeds_then, refuses_disk, refuses_read, writes_nothing, writes_one}
@@ -87,12 +87,12 @@ shows_write s old new l lba block h at dirty own stays shape values = record {
   ];
 }
 
-module _ (v : CachedDisk) (old new : Contents) (s : CacheList) (own : geometry_of v.cache ≡ v.options.geometry) (shape : FitsOn v.options.geometry old.shape) (is : IsHeld v old s) (shows : Shows s old new) where
+module _ (v : CachedDisk) (old new : Contents) (s : CacheList) (own : geometry_of v.cache ≡ v.options.geometry) (shape : FitsOn v.options.geometry old.shape) (is : IsHeld v old s) (no_write : list_any is_write (pending v.cache) ≡ false) (shows : Shows s old new) where
   abbrev without_buffered : CacheList
   without_buffered = undo is.holds.waiting s
 
   none_waits : list_any is_write is.holds.waiting ≡ false
-  none_waits = (none_later v is.may_undo old s is.holds).1
+  none_waits = (none_later v no_write old s is.holds).1
 
   shape_now : FitsOn v.options.geometry new.shape
   shape_now = subst (λ (x : Shape). FitsOn v.options.geometry x) (sym shows.shape) shape
@@ -123,7 +123,7 @@ module _ (v : CachedDisk) (old new : Contents) (s : CacheList) (own : geometry_o
 
   pub stands_now : KeepsPlainDisk (told_of v) old new
   stands_now d stand = over_stands (told_of v) new without_buffered beneath_now d
-      (over_same v.options.geometry new.disk s without_buffered d (undo_same new.disk s agrees_now (geometry_of v.cache) is.holds.waiting none_waits is.holds.waits) (over_now d (held_over v old s own is d stand)))
+      (over_same v.options.geometry new.disk s without_buffered d (undo_same new.disk s agrees_now (geometry_of v.cache) is.holds.waiting none_waits is.holds.waits) (over_now d (same_over v old s own is no_write d stand)))
 
   -- the call failed, so the volume is down
   pub left_down : (k : Ssc) → k ≡ v.cache → IsLeft (record v { cache = k; down = true }) new
@@ -132,18 +132,19 @@ module _ (v : CachedDisk) (old new : Contents) (s : CacheList) (own : geometry_o
   -- else the volume still holds the list
   module _ (flash : new.flash ≡ old.flash) (settled : (a : ℕ) → (old.disk a).earlier ≡ [] → ((new.disk a).earlier ≡ []) ⊎ IsDirtyIn s a) where
     held_now : IsHeld v new s
-    held_now = held_at_write v new s (holds_over v.cache old new s flash shows.shape is.holds) agrees_now
+    held_now = held_no_write v new s no_write (holds_over v.cache old new s flash shows.shape is.holds) agrees_now
         (λ a. elim (is.settled a) [ inl none ↦ settled a none | inr dirty ↦ inr dirty ]) is.suits is.may_undo
 
     pub left_up : IsLeft v new
     left_up = held_left v new s own held_now shape_now
 
 -- the call answered `Ok`
-module _ (v : CachedDisk) (k : Ssc) (same : k ≡ v.cache) (s t : State) (n : ℕ) (up : is_down v ≡ false) where
+module _ (v : CachedDisk) (k : Ssc) (same : k ≡ v.cache) (s t : State) (n : ℕ) (up : is_down v ≡ false) (no_write : list_any is_write (pending v.cache) ≡ false) where
   pub proceeds_up : Answers s t → WritesDisk n s t (Ok tt) → IsLeft v t.contents → KeepsPlainDisk (told_of v) s.contents t.contents → Proceeds n v (record v { cache = k }) s t (Ok tt)
   proceeds_up answers writes left stands = subst (λ (c : Ssc). Proceeds n v (record v { cache = c }) s t (Ok tt)) (sym same) (record {
     left = left;
     stands = stands;
+    settled = λ still. no_write;
     made = (refl, refl);
     reserved = refl;
     held = λ now a. refl;
@@ -197,7 +198,7 @@ block_read o found block h at read = (subst (λ (x : Option Held). ReadOf x foun
 
 -- ---- a block that is copied: it is read, and written to the disk
 
-module _ (v : CachedDisk) (k : Ssc) (same : k ≡ v.cache) (s m : State) (left : IsLeft v s.contents) (up : is_down v ≡ false) where
+module _ (v : CachedDisk) (k : Ssc) (same : k ≡ v.cache) (s m : State) (left : IsLeft v s.contents) (up : is_down v ≡ false) (no_write : list_any is_write (pending v.cache) ≡ false) where
   list_is : IsHeld v s.contents left.held
   list_is = left.up up
 
@@ -205,23 +206,23 @@ module _ (v : CachedDisk) (k : Ssc) (same : k ≡ v.cache) (s m : State) (left :
   copy_unread e r is other reads =
       let shows = shows_same left.held s.contents m.contents reads.contents in
       proceeds_down v k true s m r 1 refl (ap (λ (c : Ssc). c.ready) same) (refuses_read s m e r is other reads)
-      (left_down v s.contents m.contents left.held left.own left.shape list_is shows k same)
-      (stands_now v s.contents m.contents left.held left.own left.shape list_is shows)
+      (left_down v s.contents m.contents left.held left.own left.shape list_is no_write shows k same)
+      (stands_now v s.contents m.contents left.held left.own left.shape list_is no_write shows)
 
   module _ (reads : ReadsFlash s m false false) where
     pub once_read : Proceeds 0 v v s m (Ok tt)
     once_read =
         let shows = shows_same left.held s.contents m.contents reads.contents in
-        proceeds_up v v.cache refl s m 0 up (answers_read s m reads)
+        proceeds_up v v.cache refl s m 0 up no_write (answers_read s m reads)
         (writes_nothing s m (ap (λ (x : Counts). x.disk_writes) reads.counts) (ap (λ (x : Counts). x.disk_reads) reads.counts))
-        (left_up v s.contents m.contents left.held left.own left.shape list_is shows (ap (λ (x : Contents). x.flash) reads.contents) (λ a none. inl (ap (λ (x : Contents). (x.disk a).earlier) reads.contents ∙ none)))
-        (stands_now v s.contents m.contents left.held left.own left.shape list_is shows)
+        (left_up v s.contents m.contents left.held left.own left.shape list_is no_write shows (ap (λ (x : Contents). x.flash) reads.contents) (λ a none. inl (ap (λ (x : Contents). (x.disk a).earlier) reads.contents ∙ none)))
+        (stands_now v s.contents m.contents left.held left.own left.shape list_is no_write shows)
 
     pub copy_lacks : (t : State) → t ≡ m → Proceeds 1 v (record v { cache = k }) s t (Err volume.OutOfMemory)
     copy_lacks t unchanged =
         subst (λ (x : State). Proceeds 1 v (record v { cache = k }) s x (Err volume.OutOfMemory)) (sym unchanged)
         (subst (λ (c : Ssc). Proceeds 1 v (record v { cache = c }) s m (Err volume.OutOfMemory)) (sym same)
-        (proceeds_then v v v s m m 0 1 once_read 1 (Err volume.OutOfMemory) refl (lacks_memory v m up once_read.left 1)))
+        (proceeds_then v v v s m m 0 1 once_read 1 (Err volume.OutOfMemory) refl (lacks_memory v m up once_read.left no_write 1)))
 
     module _ (t : State) (lba : ℕ) (dirty : is_among (dirty_of v) lba ≡ true) (found : Bool) (block : Block) (read : (x : CacheList) → Holds v.cache s.contents x → ReadOf (get x lba) found block)
         (values : (a : ℕ) (b : Block) → HasValue (t.contents.disk a) b → HasValue (m.contents.disk a) b ⊎ ((a ≡ lba) × (b ≡ block))) where
@@ -245,18 +246,18 @@ module _ (v : CachedDisk) (k : Ssc) (same : k ≡ v.cache) (s m : State) (left :
           let shows = shows_copy (lost {T = Unit {0}} (Err e)) calls.flash calls.passes.shape in
           proceeds_then v v (record v { cache = k; down = true }) s m t 0 1 once_read 1 (Err (disk_error e)) refl
           (proceeds_down v k true m t (disk_error e) 1 refl (ap (λ (c : Ssc). c.ready) same) (refuses_disk m t e other calls counts)
-          (left_down v m.contents t.contents mid.held mid.own mid.shape mid_is shows k same)
-          (stands_now v m.contents t.contents mid.held mid.own mid.shape mid_is shows))
+          (left_down v m.contents t.contents mid.held mid.own mid.shape mid_is no_write shows k same)
+          (stands_now v m.contents t.contents mid.held mid.own mid.shape mid_is no_write shows))
 
       module _ (wrote : (a : ℕ) → t.contents.disk a ≡ after_write m.contents.disk lba block a) (calls : CallsDisk m t (Ok tt)) where
         pub copy_done : t.counts ≡ write_counted m.counts → Proceeds 1 v (record v { cache = k }) s t (Ok tt)
         copy_done counts =
             let shows = shows_copy false calls.flash calls.passes.shape in
             proceeds_then v v (record v { cache = k }) s m t 0 1 once_read 1 (Ok tt) refl
-            (proceeds_up v k same m t 1 up (answers_disk m t calls)
+            (proceeds_up v k same m t 1 up no_write (answers_disk m t calls)
             (writes_one m t (ap (λ (x : Counts). x.disk_writes) counts) (ap (λ (x : Counts). x.disk_reads) counts))
-            (left_up v m.contents t.contents mid.held mid.own mid.shape mid_is shows (calls.flash.stays refl) (wrote_settled m.contents.disk t.contents.disk mid.held lba block dirty_mid wrote))
-            (stands_now v m.contents t.contents mid.held mid.own mid.shape mid_is shows))
+            (left_up v m.contents t.contents mid.held mid.own mid.shape mid_is no_write shows (calls.flash.stays refl) (wrote_settled m.contents.disk t.contents.disk mid.held lba block dirty_mid wrote))
+            (stands_now v m.contents t.contents mid.held mid.own mid.shape mid_is no_write shows))
 
         pub copied_here : IsOnDisk (record v { cache = k }) t.contents lba
         copied_here = wrote_here v k same m.contents t.contents (calls.flash.stays refl) calls.passes.shape mid.held mid_is.holds lba block dirty_mid.0 dirty_mid.1 own_block wrote
@@ -266,22 +267,22 @@ module _ (v : CachedDisk) (k : Ssc) (same : k ≡ v.cache) (s m : State) (left :
 
 -- ---- the disk is flushed
 
-module _ (v : CachedDisk) (s t : State) (left : IsLeft v s.contents) (up : is_down v ≡ false) (values : (a : ℕ) (b : Block) → HasValue (t.contents.disk a) b → HasValue (s.contents.disk a) b) where
+module _ (v : CachedDisk) (s t : State) (left : IsLeft v s.contents) (up : is_down v ≡ false) (no_write : list_any is_write (pending v.cache) ≡ false) (values : (a : ℕ) (b : Block) → HasValue (t.contents.disk a) b → HasValue (s.contents.disk a) b) where
   pub flush_refused : (e : MediaError) → (e ≡ media.OutOfMemory → ⊥) → CallsDisk s t (Err e) → t.counts ≡ s.counts → Proceeds 0 v (record v { down = true }) s t (Err (disk_error e))
   flush_refused e other calls counts =
       let shows = shows_flush left.held s.contents t.contents (lost {T = Unit {0}} (Err e)) calls.flash calls.passes.shape values in
       proceeds_down v v.cache true s t (disk_error e) 0 refl refl (refuses_disk s t e other calls counts)
-      (left_down v s.contents t.contents left.held left.own left.shape (left.up up) shows v.cache refl)
-      (stands_now v s.contents t.contents left.held left.own left.shape (left.up up) shows)
+      (left_down v s.contents t.contents left.held left.own left.shape (left.up up) no_write shows v.cache refl)
+      (stands_now v s.contents t.contents left.held left.own left.shape (left.up up) no_write shows)
 
   module _ (calls : CallsDisk s t (Ok tt)) (all : (a : ℕ) → t.contents.disk a ≡ flushed (s.contents.disk a)) where
     pub flush_done : t.counts ≡ flush_counted s.counts → Proceeds 0 v v s t (Ok tt)
     flush_done counts =
         let shows = shows_flush left.held s.contents t.contents false calls.flash calls.passes.shape values in
-        proceeds_up v v.cache refl s t 0 up (answers_disk s t calls)
+        proceeds_up v v.cache refl s t 0 up no_write (answers_disk s t calls)
         (writes_nothing s t (ap (λ (x : Counts). x.disk_writes) counts) (ap (λ (x : Counts). x.disk_reads) counts))
-        (left_up v s.contents t.contents left.held left.own left.shape (left.up up) shows (calls.flash.stays refl) (λ a none. inl (ap (λ (x : Values). x.earlier) (all a))))
-        (stands_now v s.contents t.contents left.held left.own left.shape (left.up up) shows)
+        (left_up v s.contents t.contents left.held left.own left.shape (left.up up) no_write shows (calls.flash.stays refl) (λ a none. inl (ap (λ (x : Values). x.earlier) (all a))))
+        (stands_now v s.contents t.contents left.held left.own left.shape (left.up up) no_write shows)
 
     pub flush_settles : IsFlushed t.contents
     flush_settles a = ap (λ (x : Values). x.earlier) (all a)

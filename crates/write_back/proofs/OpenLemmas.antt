@@ -1,8 +1,7 @@
 -- A volume that was opened: its table came from the loaded entries, and then its checkpoint was made.
-use Rattle.std.proofs.Common.{◌≡◌, ℕ, List, Ok, Err, refl, sym, ◌∙◌, ap, subst}
+use Rattle.std.proofs.Common.{◌≡◌, Ok, sym, ◌∙◌, ap, subst}
 use Rattle.ft_base.specs.declared.geometry.Geometry.{Geometry}
 use Rattle.ft_base.specs.Told.{Told}
-use Rattle.ft_base.specs.declared.told.Mode.{Mode}
 use Rattle.ft_base.specs.declared.told.Mode.TheVariants.{Back}
 use Rattle.ft_media.specs.State.{State}
 use Rattle.ft_volume.specs.Opening.{OpensVolume}

@@ -21,6 +21,9 @@ use Rattle.ft_volume.specs.Volume.{FaultDowns, Goes, HasCause, volume_lost}
 use Rattle.ft_volume.specs.Standing.{StandFor}
 use Rattle.ft_volume.specs.declared.volume.VolumeError.{VolumeError}
 use Rattle.ft_volume.specs.declared.volume.VolumeError.TheVariants as volume
+use Rattle.std.specs.List.{list_any}
+use Rattle.cache_model.specs.Cache.{is_write}
+use Rattle.ssc.specs.CacheState.{pending}
 use Rattle.ssc.specs.declared.cache.Ssc.{Ssc}
 use Rattle.ssc.specs.declared.error.SscError.{SscError}
 use Rattle.ssc.specs.declared.error.SscError.TheVariants.{Full, FlashFault, PowerLost, OutOfMemory}
@@ -65,6 +68,7 @@ module _ (a b c : CachedDisk) (s t u : State) (m n : ℕ) (first : Proceeds m a 
   joined : (k : ℕ) (r : Answer) → WritesDisk k s u r → Proceeds n b c t u r → Proceeds k a c s u r
   joined k r writes then = record {
     left = then.left;
+    settled = then.settled;
     stands = λ d stand. subst (λ (x : Told). StandFor (ImageIs x) u.contents d) (first.goes [] []).told (then.stands d (subst (λ (x : Told). StandFor (ImageIs x) t.contents d) (sym (first.goes [] []).told) (first.stands d stand)));
     made = (then.made.0 ∙ first.made.0, then.made.1 ∙ first.made.1);
     reserved = then.reserved ∙ first.reserved;
@@ -94,11 +98,12 @@ same_then a b c first then = then ∙ ap (λ (w : CachedDisk). record w { down =
 
 -- ---- nothing was done
 
-module _ (v : CachedDisk) (s : State) (up : is_down v ≡ false) (left : IsLeft v s.contents) where
+module _ (v : CachedDisk) (s : State) (up : is_down v ≡ false) (left : IsLeft v s.contents) (no_write : list_any is_write (pending v.cache) ≡ false) where
   pub proceeds_none : Proceeds 0 v v s s (Ok tt)
   proceeds_none = record {
     left = left;
     stands = λ d stand. stand;
+    settled = λ still. no_write;
     made = (refl, refl);
     reserved = refl;
     held = λ now a. refl;
@@ -121,6 +126,7 @@ module _ (v : CachedDisk) (s : State) (up : is_down v ≡ false) (left : IsLeft 
   lacks_memory n = record {
     left = left;
     stands = λ d stand. stand;
+    settled = λ still. no_write;
     made = (refl, refl);
     reserved = refl;
     held = λ now a. refl;
@@ -287,6 +293,7 @@ module _ (v : CachedDisk) (k : Ssc) (d : Bool) (s t : State) (r : VolumeError) w
   proceeds_down n down reserved refuses left stands = record {
     left = left;
     stands = stands;
+    settled = λ up. absurd (both_ways (is_down refused_disk) up down);
     made = (refl, refl);
     reserved = reserved;
     held = λ up a. absurd (both_ways (is_down refused_disk) up down);

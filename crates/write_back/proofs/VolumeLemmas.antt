@@ -1,6 +1,10 @@
 -- A volume that comes up, with a table that comes from its cache.
 use Rattle.std.proofs.Common.{rules, arith, Result, Ok, Err, ◌≡◌, ◌⊎◌, ℕ, ◌+◌, ◌/◌, ◌≤◌, ◌<◌, nat_lt, lt-ltb, Option, Some, None, Bool, true, false, if◌then◌else◌, List, [], ◌++◌, length, get_or, map, inl, refl, sym, ◌∙◌, ap, subst}
-use Rattle.std.specs.Prelude.{IsTrue}
+use Rattle.std.specs.Prelude.{IsTrue, OnOk}
+use Rattle.std.proofs.lemmas.Result.{on_ok_weaker}
+use Rattle.ft_base.specs.PlainDisk.{BlockWrite, PlainDisk, after_writes}
+use Rattle.ft_base.specs.Told.{Told}
+use Rattle.ft_volume.specs.Standing.{StandFor}
 use Rattle.std.specs.FinMap.{get}
 use Rattle.std.specs.Option.{option_map}
 use Rattle.ft_base.specs.declared.block.Place.{Place}
@@ -14,13 +18,13 @@ use Rattle.ft_base.specs.declared.told.Mode.TheVariants.{Back}
 use Rattle.ft_media.specs.Passes.{Passes}
 use Rattle.ft_media.specs.State.{State}
 use Rattle.ft_volume.specs.Opening.{ImageIs}
-use Rattle.ft_volume.specs.Volume.{AsksDevices, ComesUp, Costs, Idles, VolumeState, backs_of, dirty_lbas, flushes_of}
+use Rattle.ft_volume.specs.Volume.{AsksDevices, ComesUp, Call, Costs, DoneOwing, Finds, Goes, Idles, StaysUp, VolumeState, backs_of, writes_of, dirty_lbas, flushes_of}
 use Rattle.ft_volume.specs.declared.volume.Idled.{Idled}
 use Rattle.ft_volume.specs.declared.volume.Idled.TheVariants.{Cleaned}
 use Rattle.ft_volume.specs.declared.volume.VolumeError.{VolumeError}
 use Rattle.ft_volume.specs.declared.volume.VolumeError.TheVariants.{FlashFault, DiskFault, PowerLost, OutOfMemory, OutOfVolume}
 use Rattle.ft_volume.proofs.OpenedLemmas.{opened_up}
-use Rattle.ft_volume.proofs.UpLemmas.{cause_at, err_at, lost_at}
+use Rattle.ft_volume.proofs.UpLemmas.{cause_at, done_through, err_at, lost_at}
 use Rattle.cache_model.specs.Cache.{dirty_between}
 use Rattle.cache_model.specs.CacheList.{CacheList, Held}
 use Rattle.cache_model.specs.declared.entry.Entry.{Entry}
@@ -42,7 +46,7 @@ use Rattle.cached_disk.specs.Kept.{Loads, MayServe, dirty_of, WritesDisk}
 use Rattle.cached_disk.specs.Kept as kept
 use Rattle.merge_engine.specs.Loaded.{AreAscending}
 use Rattle.cached_disk.proofs.AddressLemmas.{holds_lbas, holds_within, lbas_alike, lbas_ascending, lbas_between}
-use Rattle.cached_disk.proofs.CallLemmas.{asks_none, same_up}
+use Rattle.cached_disk.proofs.CallLemmas.{asks_none, was_kept}
 use Rattle.cached_disk.proofs.HeldLemmas.{one_held}
 use Rattle.cached_disk.proofs.OpenedLemmas.{given_up_left}
 use Rattle.write_back.specs.declared.volume.WriteBack.{WriteBack}
@@ -258,7 +262,7 @@ uncleaned_steps old new before after e steps = record {
   within = λ is. steps.within (err_at (Unit {0}) Idled e OutOfVolume is);
 }
 
-pub uncleaned_costs : (old new : VolumeState) (before after : State) (e : VolumeError) → goes_back old.told.mode old.told.dirty (length old.table) ≡ true → WritesDisk (last_size old.table) before after (Err e) → (new.down ≡ false → new ≡ old)
+pub uncleaned_costs : (old new : VolumeState) (before after : State) (e : VolumeError) → goes_back old.told.mode old.told.dirty (length old.table) ≡ true → WritesDisk (last_size old.table) before after (Err e) → (new.down ≡ false → StaysUp Idles old new)
     → Costs {T = Idled} Idles old new before after (Err e)
 uncleaned_costs old new before after e goes writes same = record {
   table = tt;
@@ -266,7 +270,7 @@ uncleaned_costs old new before after e goes writes same = record {
   disk_writes = tt;
   most_writes = let most = writes.most in omega (arith, most, back);
   most_reads = let reads = writes.reads in omega (arith, reads);
-  refused = λ up. same_up Idles old new (same up) up;
+  refused = same;
 }
   where
     back : backs_of Idles old.told old.table ≡ last_size old.table
@@ -276,4 +280,25 @@ uncleaned_costs old new before after e goes writes same = record {
 pub cleaned_asks : (old new : VolumeState) (before after : State) (result : Result Idled VolumeError) → goes_back old.told.mode old.told.dirty (length old.table) ≡ true → after.counts.disk_flushes ≤ before.counts.disk_flushes + 1 → AsksDevices Idles old old new before after result
 cleaned_asks old new before after result goes most =
     let one : flushes_of Idles old.told old.table ≡ 1 = ap (λ (b : Bool). if b then 1 else 0) goes in
-    asks_none Idles old new before after result (λ none. none) (λ none. none) (omega (arith, most, one))
+    asks_none Idles old new before after result (λ none. none) (λ finds none. none) (omega (arith, most, one))
+
+-- ---- a call that writes no block, once the volume is up
+
+pub always_ok : {T E P : Type 0} (r : Result T E) → P → OnOk r P
+always_ok (Ok value) fact = fact
+always_ok (Err e) fact = tt
+
+pub back_done : {T : Type 0} (call : Call) (old mid new : WriteBack) (before between after : State) (r : Result T VolumeError) → ComesUp {T = Unit {0}} ImageIs Loads (state_of old) (state_of mid) before between (Ok tt)
+    → ((owed : List BlockWrite) → kept.Owes old.disk before.contents owed → kept.Owes mid.disk between.contents owed) → kept.is_down mid.disk ≡ false → writes_of call ≡ [] → kept.StaysOwing mid.disk new.disk between.contents after.contents
+    → OnOk r ((owed : List BlockWrite) → kept.Owes mid.disk between.contents owed → (base : PlainDisk) → StandFor (ImageIs (kept.told_of mid.disk)) between.contents base → Finds call (after_writes owed base)) → Goes (state_of mid) (state_of new) between after r
+    → DoneOwing (λ (owed : List BlockWrite). kept.Owes old.disk before.contents owed) (λ (owed : List BlockWrite). kept.Owes new.disk after.contents owed) ImageIs call (state_of old) (state_of new) before.contents after.contents r
+back_done call old mid new before between after r comes owes up nothing keeps found goes owed was =
+    let there = owes owed was in
+    let at = keeps owed there in (
+      at.0,
+      at.1,
+      done_through ImageIs Loads (state_of old) (state_of mid) (state_of new) before between after tt comes r call owed at.0 (λ base stand.
+          was_kept call (state_of mid) (state_of new) between after owed at.0 base r
+          (subst (λ (t : Told). kept.KeepsOwed t after.contents (kept.is_down new.disk) owed at.0 base) (sym goes.told) (at.2 base stand))
+          nothing (on_ok_weaker r (λ found. found owed there base stand) found) up goes),
+    )

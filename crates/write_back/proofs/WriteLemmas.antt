@@ -1,10 +1,10 @@
 -- Writes to the cache of a volume that writes back, and its table of dirty groups after them.
-use Rattle.std.proofs.Common.{◌≡◌, ◌⊎◌, ℕ, zero, suc, ◌+◌, ◌-◌, ◌*◌, ◌/◌, ◌≤◌, ◌<◌, ◌==◌, ◌||◌, nat_le, Bool, true, false, cond, List, [], ◌∷◌, length, map, filter, Some, Ok, Err, Result, inl, inr, refl, sym, ◌∙◌, ap, subst, arith}
+use Rattle.std.proofs.Common.{◌≡◌, ◌⊎◌, ℕ, zero, suc, ◌+◌, ◌-◌, ◌*◌, ◌/◌, ◌≤◌, ◌<◌, ◌==◌, ◌||◌, nat_le, Bool, true, false, cond, List, [], ◌∷◌, ◌++◌, length, map, filter, Some, Ok, Err, Result, inl, inr, refl, sym, ◌∙◌, ap, ap₂, subst, arith}
 use Rattle.std.proofs.Math.Nat.{div-mul-le_self}
 use Rattle.std.proofs.Math.Path.{fun_ext}
 use Rattle.std.specs.Prelude.{OnOk, OnErr, is_err}
 use Rattle.std.specs.FinMap.{entries, get}
-use Rattle.std.specs.List.{slice_get}
+use Rattle.std.specs.List.{list_any, slice_get}
 use Rattle.std.specs.Option.{is_some}
 use Rattle.std.proofs.lemmas.Bool.{both_ways, false≢true, or_left, or_right}
 use Rattle.std.proofs.lemmas.Result.{on_ok_weaker}
@@ -13,10 +13,12 @@ use Rattle.ft_base.specs.declared.block.Place.{Place}
 use Rattle.ft_base.specs.declared.block.Page.{Page}
 use Rattle.ft_base.specs.declared.geometry.Geometry.{Geometry}
 use Rattle.ft_base.specs.declared.told.Mode.{Mode}
-use Rattle.ft_base.specs.declared.told.Mode.TheVariants.{Back}
+use Rattle.ft_base.specs.declared.told.Mode.TheVariants.{Back, Through}
 use Rattle.ft_base.specs.Contents.{Contents, Shape, set}
 use Rattle.ft_base.specs.Count.{RoseBy}
-use Rattle.ft_base.specs.PlainDisk.{PlainDisk}
+use Rattle.ft_base.specs.PlainDisk.{BlockWrite, PlainDisk, after_writes}
+use Rattle.ft_base.specs.declared.told.Ack.{Ack}
+use Rattle.ft_base.specs.declared.told.Ack.TheVariants.{Write as AtWrite, Flush as AtFlush}
 use Rattle.ft_base.specs.Table.{Table, Waiting, backs_written, is_full, last_size, put_first, table_written, with_lba, without_last}
 use Rattle.ft_base.specs.Told.{Told}
 use Rattle.ft_base.proofs.Images.{newest_image, with_newest}
@@ -26,12 +28,16 @@ use Rattle.ft_media.specs.State.{State}
 use Rattle.ft_volume.specs.declared.volume.VolumeError.{VolumeError}
 use Rattle.ft_volume.specs.declared.volume.VolumeError.TheVariants as error
 use Rattle.ft_volume.specs.Opening.{ImageIs, Suits}
-use Rattle.ft_volume.specs.Volume.{Costs, StaysUp, VolumeState, WasDone, Writes, dirty_lbas, flushes_of, flushes_written}
+use Rattle.ft_volume.specs.Volume.{Call, Costs, Idles, IsAny, StaysUp, VolumeState, WasDone, Writes, dirty_lbas, flushes_of, flushes_written, may_log, owing, stages}
+use Rattle.ft_volume.proofs.DoneLemmas.{writes_then}
+use Rattle.ft_volume.proofs.OwedLemmas.{leaves_all, leaves_front, was_behind}
+use Rattle.ft_volume.proofs.UpLemmas.{any_map, was_from}
 use Rattle.ft_volume.specs.Standing.{StandFor}
 use Rattle.ft_volume.specs.Volume as volume
 use Rattle.cache_model.specs.Records.{Entries}
 use Rattle.cache_model.specs.Entries.{IsMap, each_once}
-use Rattle.cache_model.specs.Cache.{IsFull, Vanish, undo, written_block, written_dirty}
+use Rattle.cache_model.specs.Cache.{Buffered, IsFull, Vanish, Written, is_write, owed_by, owed_of, taken_back, undo, written_block, written_dirty}
+use Rattle.cache_model.proofs.UndoLemmas.{back_written}
 use Rattle.cache_model.specs.CacheList.{Agrees, CacheList, Held}
 use Rattle.cache_model.specs.Stands.{FlashStandsFor}
 use Rattle.cache_model.proofs.CountLemmas.{same_number}
@@ -42,21 +48,22 @@ use Rattle.ssc.specs.declared.cache.Ssc.{Ssc}
 use Rattle.ssc.specs.CacheState.{Holds, HoldsBeside, entries_of, geometry_of, pending}
 use Rattle.ssc.specs.declared.error.SscError.{SscError}
 use Rattle.ssc.specs.declared.error.SscError.TheVariants.{Full, OutOfMemory}
-use Rattle.ssc.specs.Commands.{FullExactly, HoldsWritten, ImagesOfWrite, FlashStandsForWrite, AsUndone, AsLeft, AsWritten}
+use Rattle.ssc.specs.Commands.{FullExactly, HoldsBuffered, HoldsWritten, ImagesOfWrite, FlashStandsForWrite, AsUndone, AsLeft, AsWritten}
 use Rattle.ssc.specs.Errors.{stops}
 use Rattle.cached_disk.specs.declared.disk.CachedDisk.{CachedDisk}
-use Rattle.cached_disk.specs.Kept.{IsBeneath, IsDirtyIn, IsHeld, dirty_of, is_down, told_of, waiting_in, AsksNoDisk, WritesDisk}
+use Rattle.cached_disk.specs.Kept.{IsBeneath, IsDirtyIn, IsHeld, MayUndo, dirty_of, is_down, told_of, waiting_in, AsksNoDisk, WritesDisk}
 use Rattle.cached_disk.specs.Kept as kept
 use Rattle.cached_disk.proofs.AddressLemmas.{holds_held, holds_lbas, holds_within, lbas_ascending, lbas_dirty, lbas_in, lbas_with, written_held}
-use Rattle.cached_disk.proofs.CallLemmas.{answered_write, gives_up, refused_same, refused_write}
+use Rattle.cached_disk.proofs.CallLemmas.{gives_up}
 use Rattle.cached_disk.proofs.DiskLemmas.{IsOver, over_stands}
-use Rattle.cached_disk.proofs.HeldLemmas.{Stays, down_left, drove, held_agrees, held_beneath, held_left, held_over, held_stands, own_flash, step_beneath, step_held, step_over, stopped_down, undone, undone_over}
+use Rattle.cached_disk.proofs.HeldLemmas.{Stays, down_left, drove, held_agrees, held_beneath, held_left, held_over, own_flash, step_beneath, step_over, stopped_down, undone}
 use Rattle.cached_disk.proofs.StepLemmas.{over_same, vanish_agrees, vanish_dirty, vanish_same, vanish_was, written_agrees, written_dirty-keeps, written_here, written_over, written_was}
 use Rattle.write_back.specs.declared.volume.WriteBack.{WriteBack}
-use Rattle.write_back.specs.Left.{IsExact, IsLeft, IsDirtyTable, out_of_group, state_of}
+use Rattle.write_back.specs.Left.{DoesOwing, IsExact, IsLeft, IsDirtyTable, StaysAs, out_of_group, state_of}
 use Rattle.write_back.specs.Writing.{HasTableRoom, backs_made, flushes_made, room_made}
 use Rattle.write_back.proofs.TableLemmas.{map_twice, exact_touched, exact_without, few_exact, few_lbas, full_waiting, length_waiting, not_full_exact, put_waiting, touched_apart, without_apart}
-use Rattle.cached_disk.proofs.ReadLemmas.{may_none, on_ok_of}
+use Rattle.cached_disk.proofs.ReadLemmas.{Alone, Behind, BufferedOwing, Committed, Drove, IsShown, buffered_held, buffered_stands, on_ok_of, owes_down, owes_held, owes_up}
+use Rattle.ssc.proofs.HoldsLemmas.{nothing_waits}
 use Rattle.cached_disk.proofs.ReadLemmas as reads
 
 -- ---- lists of groups
@@ -181,13 +188,6 @@ suits_back : (mode : Mode) → mode ≡ Back → (s : CacheList) → Suits mode 
 suits_back mode back s = subst (λ (m : Mode). Suits m s) (sym back) tt
 
 module _ (v : CachedDisk) (old : Contents) (s : CacheList) (own : geometry_of v.cache ≡ v.options.geometry) (is : IsHeld v old s) where
-  -- the flash that a crash leaves: it stands for a list that shows the same blocks as the held list
-  pub record ShowsHeld (page : Place → Page) : Type 0 where
-    pub list : CacheList
-    pub stands : FlashStandsFor v.options.geometry page list
-    pub agrees : Agrees list old.disk
-    pub over : (d : PlainDisk) → IsOver v.options.geometry s old.disk d → IsOver v.options.geometry list old.disk d
-
   module _ (lba : ℕ) (block : Block) where
     -- a list with the block, made from the held list after clean groups gave way
     pub record HasBlock (list : CacheList) : Type 0 where
@@ -201,14 +201,14 @@ module _ (v : CachedDisk) (old : Contents) (s : CacheList) (own : geometry_of v.
       pub own_vanish : Vanish v.options.geometry s lba w
       own_vanish = subst (λ (g : Geometry). Vanish g s lba w) own vanish
 
-      gave_over : (d : PlainDisk) → IsOver v.options.geometry s old.disk d → IsOver v.options.geometry w old.disk d
+      pub gave_over : (d : PlainDisk) → IsOver v.options.geometry s old.disk d → IsOver v.options.geometry w old.disk d
       gave_over d over = over_same v.options.geometry old.disk s w d (vanish_same v.options.geometry s w lba own_vanish old.disk (held_agrees v old s is)) over
 
-      gave_agrees : Agrees w old.disk
+      pub gave_agrees : Agrees w old.disk
       gave_agrees = vanish_agrees v.options.geometry s w lba own_vanish old.disk (held_agrees v old s is)
 
-      shows_left : (page : Place → Page) → FlashStandsFor (geometry_of v.cache) page w → ShowsHeld page
-      shows_left page stands = record { list = w; stands = own_flash v own page w stands; agrees = gave_agrees; over = gave_over }
+      shows_left : v.mode ≡ Back → (page : Place → Page) → FlashStandsFor (geometry_of v.cache) page w → IsShown v old (undo is.holds.waiting s) s page
+      shows_left back page stands = record { list = w; stands = own_flash v own page w stands; agrees = gave_agrees; suits = suits_back v.mode back w; over = inr gave_over }
 
       abbrev after : CacheList
       after = written_dirty lba block w
@@ -226,33 +226,53 @@ module _ (v : CachedDisk) (old : Contents) (s : CacheList) (own : geometry_of v.
       }
 
     -- whenever it was cut
-    write_shows : (page : Place → Page) → FlashStandsForWrite (geometry_of v.cache) page (undo is.holds.waiting s) s lba (written_dirty lba block) → ShowsHeld page ⊎ ((t : CacheList) × FlashStandsFor v.options.geometry page t × HasBlock t)
-    write_shows page (AsUndone x) = inl (record { list = undone v old s own is; stands = own_flash v own page (undo is.holds.waiting s) x; agrees = (held_beneath v old s own is).agrees; over = undone_over v old s own is })
-    write_shows page (AsLeft w vanish x) = inl (shows_left w vanish page x)
-    write_shows page (AsWritten w vanish x) = inr (after w vanish, own_flash v own page (after w vanish) x, has_block w vanish)
+    write_shows : v.mode ≡ Back → (page : Place → Page) → FlashStandsForWrite (geometry_of v.cache) page (undo is.holds.waiting s) s lba (written_dirty lba block) → IsShown v old (undo is.holds.waiting s) s page ⊎ ((t : CacheList) × FlashStandsFor v.options.geometry page t × HasBlock t)
+    write_shows back page (AsUndone x) = inl (record { list = undone v old s own is; stands = own_flash v own page (undo is.holds.waiting s) x; agrees = (held_beneath v old s own is).agrees; suits = suits_back v.mode back (undone v old s own is); over = inl (λ d over. over) })
+    write_shows back page (AsLeft w vanish x) = inl (shows_left w vanish back page x)
+    write_shows back page (AsWritten w vanish x) = inr (after w vanish, own_flash v own page (after w vanish) x, has_block w vanish)
 
 module _ (v : CachedDisk) (old new : Contents) (s : CacheList) (own : geometry_of v.cache ≡ v.options.geometry) (is : IsHeld v old s) (back : v.mode ≡ Back) (lba : ℕ) (block : Block)
     (c : Ssc) (geometry : geometry_of c ≡ geometry_of v.cache) (shape : FitsOn v.options.geometry new.shape) (stays : Stays old new) where
   abbrev with_cache : CachedDisk
   with_cache = record v { cache = c }
 
+  abbrev pub drove_by : Drove v c old new s
+  drove_by = record { own = own; own_after = geometry ∙ own; shape = shape; is = is; stays = stays }
+
+  abbrev pub the_write : List BlockWrite
+  the_write = record { lba = lba; block = block } ∷ []
+
   -- the write was done
-  module _ (h : HoldsWritten c new s lba (written_dirty lba block)) (none : pending c ≡ []) where
+  module _ (h : HoldsBuffered c new s is.holds.waiting lba (written_dirty lba block) (λ w. Written lba (get w lba))) (none : (told_of v).ack ≡ AtWrite → pending c ≡ []) where
     vanish_now : Vanish (geometry_of v.cache) s lba h.left
     vanish_now = subst (λ (g : Geometry). Vanish g s lba h.left) geometry h.vanish
 
     own_list : HasBlock v old s own is lba block (written_dirty lba block h.left)
     own_list = has_block v old s own is lba block h.left vanish_now
 
-    held_now : IsHeld with_cache new (written_dirty lba block h.left)
-    held_now = step_held v c old new stays s (written_dirty lba block h.left) own_list.agrees (suits_back v.mode back (written_dirty lba block h.left)) is h.holds own_list.keeps (may_none (told_of v) (pending c) none)
+    abbrev step_back : taken_back (Written lba (get h.left lba)) (written_dirty lba block h.left) ≡ h.left
+    step_back = back_written h.left lba block
 
-    write_left : kept.IsLeft with_cache new
+    may_now : MayUndo (told_of v) (pending c)
+    may_now = record { through = λ through. absurd (let both : Back ≡ Through = sym back ∙ through in cc); at_write = λ at_write. ap (list_any is_write) (none at_write) }
+
+    left_dirty : (a : ℕ) → IsDirtyIn s a → IsDirtyIn h.left a
+    left_dirty a dirty = vanish_dirty v.options.geometry s h.left lba (own_vanish v old s own is lba block h.left vanish_now) a dirty
+
+    pub held_now : IsHeld with_cache new (written_dirty lba block h.left)
+    held_now = buffered_held v c old new s drove_by lba (written_dirty lba block) (λ w. Written lba (get w lba)) h step_back (gave_agrees v old s own is lba block h.left vanish_now) own_list.agrees left_dirty own_list.keeps
+        (suits_back v.mode back (written_dirty lba block h.left)) may_now
+
+    pub write_left : kept.IsLeft with_cache new
     write_left = held_left with_cache new (written_dirty lba block h.left) (geometry ∙ own) held_now shape
 
-    write_stands : (d : PlainDisk) → StandFor (ImageIs (told_of v)) old d → StandFor (ImageIs (told_of v)) new (set d lba block)
-    write_stands d stand = held_stands with_cache new (written_dirty lba block h.left) (geometry ∙ own) held_now (set d lba block)
-        (step_over v c old new stays (written_dirty lba block h.left) (set d lba block) (own_list.over d (held_over v old s own is d stand)))
+    the_owed : owed_by (Written lba (get h.left lba)) (get (written_dirty lba block h.left) lba) ≡ the_write
+    the_owed = ap (owed_by (Written lba (get h.left lba))) (written_here h.left lba block)
+
+    pub write_owing : (d : PlainDisk) → StandFor (ImageIs (told_of v)) old d → BufferedOwing v new (owed_of is.holds.waiting s) the_write (owed_of held_now.holds.waiting (written_dirty lba block h.left)) d
+    unfolding held_now
+    write_owing = buffered_stands v c old new s drove_by lba (written_dirty lba block) (λ w. Written lba (get w lba)) h step_back (gave_agrees v old s own is lba block h.left vanish_now) own_list.agrees left_dirty own_list.keeps
+        (suits_back v.mode back (written_dirty lba block h.left)) may_now the_write the_owed (gave_over v old s own is lba block h.left vanish_now) own_list.over
 
     write_lbas : dirty_lbas (entries_of c) ≡ with_lba lba (dirty_of v)
     write_lbas =
@@ -270,23 +290,74 @@ module _ (v : CachedDisk) (old new : Contents) (s : CacheList) (own : geometry_o
 
   -- the write failed or was cut
   module _ (stands : FlashStandsForWrite (geometry_of v.cache) new.flash.page (undo is.holds.waiting s) s lba (written_dirty lba block)) where
-    shows : ShowsHeld v old s own is new.flash.page ⊎ ((t : CacheList) × FlashStandsFor v.options.geometry new.flash.page t × HasBlock v old s own is lba block t)
-    shows = write_shows v old s own is lba block new.flash.page stands
+    shows : IsShown v old (undo is.holds.waiting s) s new.flash.page ⊎ ((t : CacheList) × FlashStandsFor v.options.geometry new.flash.page t × HasBlock v old s own is lba block t)
+    shows = write_shows v old s own is lba block back new.flash.page stands
 
     beneath_now : (t : CacheList) → Agrees t old.disk → FlashStandsFor v.options.geometry new.flash.page t → IsBeneath (told_of v) new t
     beneath_now t agrees stands = step_beneath v c old new stays s t agrees (suits_back v.mode back t) stands
 
-    cut_left : is_down with_cache ≡ true → kept.IsLeft with_cache new
+    pub cut_left : is_down with_cache ≡ true → kept.IsLeft with_cache new
     cut_left down = elim shows [
-      | inl x ↦ down_left with_cache new x.list (geometry ∙ own) shape down (beneath_now x.list x.agrees x.stands)
+      | inl x ↦ reads.refused_left v c old new s drove_by x down
       | inr x ↦ down_left with_cache new x.0 (geometry ∙ own) shape down (beneath_now x.0 x.2.agrees x.1)
     ]
 
-    cut_stands : (d : PlainDisk) → StandFor (ImageIs (told_of v)) old d → StandFor (ImageIs (told_of v)) new d ⊎ StandFor (ImageIs (told_of v)) new (set d lba block)
+    -- the media stand for the plain disk as before, after the owed writes, or with the block as well
+    pub cut_stands : (d : PlainDisk) → StandFor (ImageIs (told_of v)) old d → IsAny (StandFor (ImageIs (told_of v)) new) (stages (owed_of is.holds.waiting s) the_write d)
     cut_stands d stand = elim shows [
-      | inl x ↦ inl (over_stands (told_of v) new x.list (beneath_now x.list x.agrees x.stands) d (step_over v c old new stays x.list d (x.over d (held_over v old s own is d stand))))
-      | inr x ↦ inr (over_stands (told_of v) new x.0 (beneath_now x.0 x.2.agrees x.1) (set d lba block) (step_over v c old new stays x.0 (set d lba block) (x.2.over d (held_over v old s own is d stand))))
+      | inl x ↦ elim (reads.refused_stands v c old new s drove_by x d stand) [ inl base ↦ inl base | inr all ↦ inr (inl all) ]
+      | inr x ↦
+          let all = after_writes (owed_of is.holds.waiting s) d in
+          inr (inr (inl (over_stands (told_of v) new x.0 (beneath_now x.0 x.2.agrees x.1) (set all lba block) (step_over v c old new stays x.0 (set all lba block) (x.2.over all (held_over v old s own is d stand))))))
     ]
+
+-- ---- the plain disk after a write, by the writes that were owed
+
+module _ (lba : ℕ) (block : Block) (v : CachedDisk) (old new : VolumeState) (same : new.told ≡ told_of v) (after : Contents) (owed left : List BlockWrite) (base : PlainDisk) where
+  abbrev own_write : List BlockWrite
+  own_write = record { lba = lba; block = block } ∷ []
+
+  abbrev Stand : PlainDisk → Type 0
+  Stand d = StandFor (ImageIs (told_of v)) after d
+
+  moved : (d : PlainDisk) → Stand d → StandFor (ImageIs new.told) after d
+  moved d stand = subst (λ (t : Told). StandFor (ImageIs t) after d) (sym same) stand
+
+  pub answered_owing : BufferedOwing v after owed own_write left base → WasDone {T = Unit {0}} ImageIs (Writes lba block) (owing old owed) (owing new left) after (Ok tt) base
+  answered_owing (Behind is stand) = record {
+    images = λ x now. inl (moved base stand x now);
+    lost = λ is. absurd (cc);
+    done = record { kept = 0; owes = is; media = moved base stand };
+    found = tt;
+    up = tt;
+    memory = λ is. absurd (cc);
+  }
+  answered_owing (Alone is stand) = record {
+    images = λ x now. inr (inl (moved (after_writes owed base) stand x now));
+    lost = λ is. absurd (cc);
+    done = leaves_front (ImageIs new.told) after left owed own_write base is (moved (after_writes owed base) stand);
+    found = tt;
+    up = tt;
+    memory = λ is. absurd (cc);
+  }
+  answered_owing (Committed is stand) = record {
+    images = λ x now. inr (inr (inl (moved (after_writes own_write (after_writes owed base)) stand x now)));
+    lost = λ is. absurd (cc);
+    done = leaves_all (ImageIs new.told) after left (owed ++ own_write) base is (subst (λ (d : PlainDisk). StandFor (ImageIs new.told) after d) (sym (writes_then owed own_write base)) (moved (after_writes own_write (after_writes owed base)) stand));
+    found = tt;
+    up = tt;
+    memory = λ is. absurd (cc);
+  }
+
+  pub refused_owing : (e : VolumeError) → (e ≡ error.OutOfMemory → ⊥) → new.down ≡ true → IsAny (StandFor (ImageIs (told_of v)) after) (stages owed own_write base) → WasDone {T = Unit {0}} ImageIs (Writes lba block) (owing old owed) (owing new left) after (Err e) base
+  refused_owing e other down any = record {
+    images = λ x now. any_map (StandFor (ImageIs (told_of v)) after) (ImageIs new.told x) (λ d stand. moved d stand x now) (stages owed own_write base) any;
+    lost = λ is. any_map (StandFor (ImageIs (told_of v)) after) (StandFor (ImageIs new.told) after) moved (stages owed own_write base) any;
+    done = tt;
+    found = tt;
+    up = λ up. absurd (both_ways new.down up down);
+    memory = λ is. absurd (other (let same_error : e ≡ error.OutOfMemory = cc in same_error));
+  }
 
 -- ---- the group is noted
 
@@ -318,20 +389,36 @@ module _ (v : WriteBack) (lba : ℕ) (c : Ssc) (table : Groups) (noted : table �
     is = is_held v before.contents left up
 
     -- the write was done
-    module _ (h : HoldsWritten c after.contents left.disk.held lba (written_dirty lba block)) (none : pending c ≡ []) where
+    module _ (at_write : (told_of v.disk).ack ≡ AtWrite → pending c ≡ [])
+        (done : (s : CacheList) (h : Holds v.disk.cache before.contents s) → HoldsBuffered c after.contents s h.waiting lba (written_dirty lba block) (λ w. Written lba (get w lba))) where
+      abbrev h : HoldsBuffered c after.contents left.disk.held is.holds.waiting lba (written_dirty lba block) (λ w. Written lba (get w lba))
+      h = done left.disk.held is.holds
+
       lbas : dirty_lbas (entries_of c) ≡ with_lba lba (dirty_of v.disk)
-      lbas = write_lbas v.disk before.contents after.contents left.disk.held left.disk.own is left.mode lba block c geometry shape stays h none
+      lbas = write_lbas v.disk before.contents after.contents left.disk.held left.disk.own is left.mode lba block c geometry shape stays h at_write
 
       pub put_left : IsLeft written after.contents
       put_left = record {
-        disk = write_left v.disk before.contents after.contents left.disk.held left.disk.own is left.mode lba block c geometry shape stays h none;
+        disk = write_left v.disk before.contents after.contents left.disk.held left.disk.own is left.mode lba block c geometry shape stays h at_write;
         mode = left.mode;
         table = noted_table left.table;
         exact = λ still. noted_exact (left.exact up) lbas;
       }
 
-      pub put_was : (d : PlainDisk) → StandFor (ImageIs (told_of v.disk)) before.contents d → WasDone {T = Unit {0}} ImageIs (Writes lba block) (state_of v) (state_of written) after.contents (Ok tt) d
-      put_was d stand = answered_write lba block (state_of v) (state_of written) after.contents d refl refl (write_stands v.disk before.contents after.contents left.disk.held left.disk.own is left.mode lba block c geometry shape stays h none d stand)
+      pub put_does : is_down written.disk ≡ false → DoesOwing (Writes lba block) v written before.contents after.contents (Ok tt)
+      put_does up_after owed owes =
+          let was = owes_held v.disk before.contents owed up owes in
+          let s = was.0 in
+          let h = done s was.1.holds in
+          let now = held_now v.disk before.contents after.contents s left.disk.own was.1 left.mode lba block c geometry shape stays h at_write in
+          let owed_now = owed_of now.holds.waiting (written_dirty lba block h.left) in (
+            owed_now,
+            owes_up written.disk after.contents (written_dirty lba block h.left) up_after now,
+            λ base stand.
+                answered_owing lba block v.disk (state_of v) (state_of written) refl after.contents owed owed_now base
+                (subst (λ (ws : List BlockWrite). BufferedOwing v.disk after.contents ws (record { lba = lba; block = block } ∷ []) owed_now base) (sym was.2)
+                (write_owing v.disk before.contents after.contents s left.disk.own was.1 left.mode lba block c geometry shape stays h at_write base stand)),
+          )
 
       pub put_table : (state_of written).table ≡ put_first (lba / v.disk.options.geometry.p) lba (state_of v).table
       put_table =
@@ -341,26 +428,32 @@ module _ (v : WriteBack) (lba : ℕ) (c : Ssc) (table : Groups) (noted : table �
           ∙ ap (λ (l : List ℕ). put_first (lba / v.disk.options.geometry.p) lba (waiting_in v.disk.options.geometry.p v.dirty.order l)) (sym (listed v before.contents left up))
 
       pub put_holds : volume.HoldsAfter (told_of v.disk) (Writes lba block) (state_of v).held (state_of written).held
-      put_holds = write_holds v.disk before.contents after.contents left.disk.held left.disk.own is left.mode lba block c geometry shape stays h none
+      put_holds = write_holds v.disk before.contents after.contents left.disk.held left.disk.own is left.mode lba block c geometry shape stays h at_write
 
     -- the write failed or was cut, so the volume is down
-    module _ (images : ImagesOfWrite v.disk.cache after.contents (undo is.holds.waiting left.disk.held) left.disk.held lba (written_dirty lba block)) (down : is_down written.disk ≡ true) where
-      stands : FlashStandsForWrite (geometry_of v.disk.cache) after.contents.flash.page (undo is.holds.waiting left.disk.held) left.disk.held lba (written_dirty lba block)
-      stands = images (with_newest after.contents) (newest_image after.contents)
+    module _ (images : (s : CacheList) (h : Holds v.disk.cache before.contents s) → ImagesOfWrite v.disk.cache after.contents (undo h.waiting s) s lba (written_dirty lba block)) (down : is_down written.disk ≡ true) where
+      stands : (s : CacheList) (h : Holds v.disk.cache before.contents s) → FlashStandsForWrite (geometry_of v.disk.cache) after.contents.flash.page (undo h.waiting s) s lba (written_dirty lba block)
+      stands s h = images s h (with_newest after.contents) (newest_image after.contents)
 
       pub refused_left : IsLeft written after.contents
       refused_left = record {
-        disk = cut_left v.disk before.contents after.contents left.disk.held left.disk.own is left.mode lba block c geometry shape stays stands down;
+        disk = cut_left v.disk before.contents after.contents left.disk.held left.disk.own is left.mode lba block c geometry shape stays (stands left.disk.held is.holds) down;
         mode = left.mode;
         table = noted_table left.table;
         exact = λ still. absurd (both_ways (is_down written.disk) still down);
       }
 
-      pub refused_was : (e : VolumeError) → (e ≡ error.OutOfMemory → ⊥) → (d : PlainDisk) → StandFor (ImageIs (told_of v.disk)) before.contents d → WasDone {T = Unit {0}} ImageIs (Writes lba block) (state_of v) (state_of written) after.contents (Err e) d
-      refused_was e other d stand = elim (cut_stands v.disk before.contents after.contents left.disk.held left.disk.own is left.mode lba block c geometry shape stays stands d stand) [
-        | inl same ↦ refused_same (Writes lba block) (state_of v) (state_of written) after.contents d refl refl same e
-        | inr with_block ↦ refused_write lba block (state_of v) (state_of written) after.contents d refl refl with_block e other down
-      ]
+      pub refused_does : (e : VolumeError) → (e ≡ error.OutOfMemory → ⊥) → DoesOwing (Writes lba block) v written before.contents after.contents (Err e)
+      refused_does e other owed owes =
+          let was = owes_held v.disk before.contents owed up owes in
+          let s = was.0 in (
+            [],
+            owes_down written.disk after.contents down,
+            λ base stand.
+                refused_owing lba block v.disk (state_of v) (state_of written) refl after.contents owed [] base e other down
+                (subst (λ (ws : List BlockWrite). IsAny (StandFor (ImageIs (told_of v.disk)) after.contents) (stages ws (record { lba = lba; block = block } ∷ []) base)) (sym was.2)
+                (cut_stands v.disk before.contents after.contents s left.disk.own was.1 left.mode lba block c geometry shape stays (stands s was.1.holds) base stand)),
+          )
 
 -- ---- the memory of a write was taken
 
@@ -379,9 +472,48 @@ module _ (v : WriteBack) (k : Ssc) (entries : entries_of k ≡ entries_of v.disk
     exact = λ up. subst (λ (m : Entries). IsExact v.disk.options.geometry.p v.dirty.order (dirty_lbas m)) (sym entries) (left.exact (sym reserved_up ∙ up));
   }
 
+-- the write was committed, so it waits nowhere
+pub committed_buffered : {E : Type 0} (old new : Ssc) (before now : Contents) (lba : ℕ) (step : CacheList → CacheList) (own : CacheList → Buffered) (r : Result (Unit {0}) E) → OnOk r ((s : CacheList) → Holds old before s → HoldsWritten new now s lba step) → OnOk r (pending new ≡ [])
+    → OnOk r ((s : CacheList) (h : Holds old before s) → HoldsBuffered new now s h.waiting lba step own)
+committed_buffered old new before now lba step own (Ok done) commits none = λ s h.
+    let w = commits s h in
+    record { left = w.left; vanish = w.vanish; holds = w.holds; pends = inr (inr (nothing_waits new now (step w.left) w.holds none)) }
+committed_buffered old new before now lba step own (Err e) commits none = tt
+
 -- two pages were programmed, so one was
-pub programs_one : {T : Type 0} (before after : State) (result : Result T VolumeError) → OnOk result (ProgramsPages 2 before after) → OnOk result (ProgramsPages 1 before after)
+pub programs_one : {T E : Type 0} (before after : State) (result : Result T E) → OnOk result (ProgramsPages 2 before after) → OnOk result (ProgramsPages 1 before after)
 programs_one before after result = on_ok_weaker result (λ two. record { count = two.count; spends = λ on some. let spent = two.spends on some in omega (arith, spent) })
+
+-- room was made, and then the write was done
+pub does_then : (lba : ℕ) (block : Block) (old mid new : VolumeState) (between after : Contents) (result : Result (Unit {0}) VolumeError) (owed left last : List BlockWrite) (base : PlainDisk) → mid.told ≡ old.told → mid.down ≡ false → kept.KeepsOwed old.told between mid.down owed left base
+    → ((d : PlainDisk) → StandFor (ImageIs mid.told) between d → WasDone ImageIs (Writes lba block) (owing mid left) (owing new last) after result d) → WasDone ImageIs (Writes lba block) (owing old owed) (owing new last) after result base
+does_then lba block old mid new between after result owed left last base told up keeps does = elim keeps [
+  | inl same ↦ was_from ImageIs (Writes lba block) (owing old owed) (owing mid left) (owing new last) after result base same.0 (does base (moved_to base same.1))
+  | inr (inl all) ↦ was_behind ImageIs (Writes lba block) old mid (owing new last) after result owed base
+      (subst (λ (ws : List BlockWrite). WasDone ImageIs (Writes lba block) (owing mid ws) (owing new last) after result (after_writes owed base)) all.0 (does (after_writes owed base) (moved_to (after_writes owed base) all.1)))
+  | inr (inr down) ↦ absurd (both_ways mid.down up down.0)
+]
+  where
+    moved_to : (d : PlainDisk) → StandFor (ImageIs old.told) between d → StandFor (ImageIs mid.told) between d
+    moved_to d stand = subst (λ (t : Told). StandFor (ImageIs t) between d) (sym told) stand
+
+-- a fact of an answer that has a premise of its own
+pub on_ok_if : {T E R P Q : Type 0} (r : Result T E) → (R → OnOk r P) → (R → P → Q) → OnOk r (R → Q)
+on_ok_if (Ok value) fact step = λ room. step room (fact room)
+on_ok_if (Err e) fact step = tt
+
+-- an idle step can't have used the log if each write is on the media when it answers
+pub idle_logs : (ack : Ack) → may_log ack Idles ≡ false → ack ≡ AtWrite
+idle_logs AtWrite logs = refl
+idle_logs AtFlush logs = absurd (false≢true (sym logs))
+
+-- the step failed, and the volume is up: its table and its addresses are unchanged
+pub stays_as : (call : Call) (old new : WriteBack) → (state_of new).told ≡ (state_of old).told → StaysAs old new → ((a : ℕ) → (state_of new).held a ≡ (state_of old).held a) → (may_log (told_of old.disk).ack call ≡ false → (told_of old.disk).ack ≡ AtWrite) → StaysUp call (state_of old) (state_of new)
+stays_as call old new told stays held at_write = record {
+  same = λ no. ap₂ (λ (t : Groups) (d : CachedDisk). state_of (record { disk = d; dirty = t })) stays.table (stays.disk.same (at_write no));
+  table = inl (ap (λ (t : Told). waiting_in t.geometry.p new.dirty.order (dirty_of new.disk)) told ∙ ap₂ (λ (t : Groups) (l : List ℕ). waiting_in old.disk.options.geometry.p t.order l) stays.table stays.disk.dirty);
+  held = λ a. inl (held a);
+}
 
 -- room was made for the group of an address, and then its block was written
 module _ (lba : ℕ) (block : Block) (old mid new : VolumeState) (before between after : State) (back : old.told.mode ≡ Back) (told : mid.told ≡ old.told) where

@@ -9,10 +9,11 @@ use Rattle.ft_volume.specs.Opening.{KeepsPlainDisk}
 use Rattle.ft_volume.specs.Volume.{FaultDowns, Goes}
 use Rattle.ft_volume.specs.declared.volume.VolumeError.{VolumeError}
 use Rattle.ft_volume.specs.declared.volume.VolumeError.TheVariants.{OutOfVolume}
+use Rattle.cache_model.specs.Cache.{is_write}
 use Rattle.cache_model.specs.CacheList.{CacheList, Held}
-use Rattle.ssc.specs.CacheState.{Holds, entries_of}
+use Rattle.ssc.specs.CacheState.{Holds, entries_of, pending}
 use Rattle.cached_disk.specs.declared.disk.CachedDisk.{CachedDisk}
-use Rattle.cached_disk.specs.Kept.{IsLeft, IsMadeAs, is_down, state_in, told_of, WritesDisk}
+use Rattle.cached_disk.specs.Kept.{IsLeft, IsMadeAs, StaysOwing, is_down, state_in, told_of, WritesDisk}
 
 -- the address is one of this list
 abbrev pub is_among : List ℕ → ℕ → Bool
@@ -26,11 +27,24 @@ IsOnDisk v contents a = (s : CacheList) → Holds v.cache contents s → (h : He
 abbrev pub IsFlushed : Contents → Type 0
 IsFlushed contents = (a : ℕ) → (contents.disk a).earlier ≡ []
 
--- a part of a write-back. After `Ok` n blocks went to the disk, else at most n. The plain disk is unchanged, and while
+-- a part of a write-back, begun while no write waits. After `Ok` n blocks went to the disk, else at most n. The plain disk is unchanged, and while
 -- the volume is up the same addresses are held
 pub record Proceeds (n : ℕ) (old new : CachedDisk) (before after : State) (result : Result (Unit {0}) VolumeError) : Type 0 where
   pub left : IsLeft new after.contents
   pub stands : KeepsPlainDisk (told_of old) before.contents after.contents
+  pub settled : is_down new ≡ false → list_any is_write (pending new.cache) ≡ false
+  pub made : IsMadeAs old new
+  pub reserved : new.cache.ready ≡ old.cache.ready
+  pub held : is_down new ≡ false → (a : ℕ) → is_some (get (entries_of new.cache) a) ≡ is_some (get (entries_of old.cache) a)
+  pub goes : (was is : List ℕ) → Goes (state_in was old) (state_in is new) before after result
+  pub faulted : FaultDowns result (is_down new)
+  pub writes : WritesDisk n before after result
+  pub within : IsErrOf result OutOfVolume → ⊥
+
+-- a whole write-back. The owed writes are on the media first
+pub record WritesBack (n : ℕ) (old new : CachedDisk) (before after : State) (result : Result (Unit {0}) VolumeError) : Type 0 where
+  pub left : IsLeft new after.contents
+  pub keeps : StaysOwing old new before.contents after.contents
   pub made : IsMadeAs old new
   pub reserved : new.cache.ready ≡ old.cache.ready
   pub held : is_down new ≡ false → (a : ℕ) → is_some (get (entries_of new.cache) a) ≡ is_some (get (entries_of old.cache) a)

@@ -1,26 +1,73 @@
 ghost use Rattle.std.specs.Prelude.{◌≡◌, ◌<◌, ◌≤◌, ◌==◌, ◌+◌, ◌*◌, ℕ, true, false, not, ◌&&◌, length, OnOk, OnErr, IfOk};
 ghost use Rattle.ft_base.specs.Contents.{Contents};
+ghost use Rattle.std.specs.FinMap.{get};
+ghost use Rattle.std.specs.List.{list_any};
+ghost use Rattle.std.specs.Option.{is_some};
+ghost use Rattle.ft_base.specs.declared.told.Ack.TheVariants as ack;
 ghost use Rattle.ft_base.specs.declared.told.Mode.TheVariants.{Back};
-ghost use Rattle.cached_disk.specs.Kept.{MayServe, dirty_of};
+ghost use Rattle.ft_volume.specs.Volume.{Flushes};
+ghost use Rattle.cache_model.specs.Cache.{is_write};
+ghost use Rattle.ssc.specs.CacheState.{entries_of, pending};
+ghost use Rattle.cached_disk.specs.Kept.{AsksNoDisk, MayServe, Serves, dirty_of, told_of};
 ghost use Rattle.cached_disk.specs.Kept as kept;
-ghost use Rattle.write_back.specs.Cleaning.{IsFlushed, IsOnDisk, Proceeds, is_among};
-ghost use Rattle.write_back.specs.Left.{in_group, out_of_group};
+ghost use Rattle.write_back.specs.Cleaning.{IsFlushed, IsOnDisk, Proceeds, WritesBack, is_among};
+ghost use Rattle.write_back.specs.Left.{StaysDirty, in_group, out_of_group};
 
 use block_map::page_set;
 use cached_disk::{CachedDisk, cache_error, disk_error};
 use ft_base::{Block, zero_block};
 use ft_media::{Media, MediaError};
-use ft_volume::VolumeError;
+use ft_volume::{Ack, VolumeError};
 use std::alloc::AllocError;
 
-/// Writes the dirty blocks of a group to the disk, flushes the disk, and marks the blocks clean. The plain disk is
-/// unchanged, whatever the answer is.
+/// Writes a group back, once all owed writes are on the flash.
 pub(crate) fn write_group_back<M: Media>(
     disk: &mut CachedDisk,
     media: &mut M,
     group: u64,
 ) -> Result<(), VolumeError>
     requires may { MayServe disk.old (M.state media.old).contents }
+    requires back { disk.old.mode ≡ Back }
+    requires group { group * disk.old.options.geometry.p < disk.old.options.geometry.size }
+    ensures back { WritesBack (length (in_group disk.old.options.geometry.p group (dirty_of disk.old))) disk.old disk.new
+        (M.state media.old) (M.state media.new) result }
+    ensures cleaned { OnOk result (dirty_of disk.new ≡ out_of_group disk.old.options.geometry.p group (dirty_of disk.old)) }
+    ensures same { OnErr result (kept.is_down disk.new ≡ false → StaysDirty disk.old disk.new) }
+    ensures flushes { (M.state media.new).counts.disk_flushes ≤ (M.state media.old).counts.disk_flushes + 1 }
+{
+    match settle_writes(disk, media) {
+        Ok(()) => copy_group_back(disk, media, group),
+        Err(error) => Err(error),
+    }
+}
+
+/// Puts the owed writes on the flash. If the disk got the block of an owed write, and power was cut, the cache would have
+/// the older block again. It might be clean, in front of the newer one on the disk.
+fn settle_writes<M: Media>(disk: &mut CachedDisk, media: &mut M) -> Result<(), VolumeError>
+    requires may { MayServe disk.old (M.state media.old).contents }
+    ensures serves { Serves Flushes disk.old disk.new (M.state media.old) (M.state media.new) result }
+    ensures settled { OnOk result (list_any is_write (pending disk.new.cache) ≡ false) }
+    ensures held { OnOk result ((a : ℕ) → is_some (get (entries_of disk.new.cache) a) ≡ is_some (get (entries_of disk.old.cache) a)) }
+    ensures no_disk { AsksNoDisk (M.state media.old) (M.state media.new) }
+    ensures ready { disk.new.cache.ready ≡ disk.old.cache.ready }
+    ensures refused { OnErr result (kept.is_down disk.new ≡ true) }
+    ensures at_write { (told_of disk.old).ack ≡ ack.Write → disk.new ≡ disk.old }
+{
+    match disk.ack() {
+        Ack::Write => Ok(()),
+        Ack::Flush => disk.flush(media),
+    }
+}
+
+/// Writes the dirty blocks of a group to the disk, flushes the disk, and marks the blocks clean. The plain disk is
+/// unchanged, whatever the answer is.
+fn copy_group_back<M: Media>(
+    disk: &mut CachedDisk,
+    media: &mut M,
+    group: u64,
+) -> Result<(), VolumeError>
+    requires may { MayServe disk.old (M.state media.old).contents }
+    requires settled { list_any is_write (pending disk.old.cache) ≡ false }
     requires back { disk.old.mode ≡ Back }
     requires group { group * disk.old.options.geometry.p < disk.old.options.geometry.size }
     ensures proceeds { Proceeds (length (in_group disk.old.options.geometry.p group (dirty_of disk.old))) disk.old disk.new
@@ -63,6 +110,7 @@ fn copy_blocks<M: Media>(
     lbas: &[u64],
 ) -> Result<(), VolumeError>
     requires may { MayServe disk.old (M.state media.old).contents }
+    requires settled { list_any is_write (pending disk.old.cache) ≡ false }
     requires dirty { (a : ℕ) → is_among lbas.now a ≡ true → is_among (dirty_of disk.old) a ≡ true }
     ensures proceeds { Proceeds (length lbas.now) disk.old disk.new (M.state media.old) (M.state media.new) result }
     ensures same { disk.new ≡ record disk.old { down = disk.new.down } }
@@ -87,6 +135,7 @@ fn copy_block<M: Media>(
     block: &mut Block,
 ) -> Result<(), VolumeError>
     requires may { MayServe disk.old (M.state media.old).contents }
+    requires settled { list_any is_write (pending disk.old.cache) ≡ false }
     requires dirty { is_among (dirty_of disk.old) lba ≡ true }
     ensures proceeds { Proceeds 1 disk.old disk.new (M.state media.old) (M.state media.new) result }
     ensures same { disk.new ≡ record disk.old { down = disk.new.down } }
@@ -115,6 +164,7 @@ fn copy_block<M: Media>(
 /// On `Err` the volume is down.
 fn flush_copies<M: Media>(disk: &mut CachedDisk, media: &mut M) -> Result<(), VolumeError>
     requires may { MayServe disk.old (M.state media.old).contents }
+    requires settled { list_any is_write (pending disk.old.cache) ≡ false }
     ensures proceeds { Proceeds 0 disk.old disk.new (M.state media.old) (M.state media.new) result }
     ensures same { disk.new ≡ record disk.old { down = disk.new.down } }
     ensures flushed { OnOk result (IsFlushed (M.state media.new).contents) }
@@ -139,6 +189,7 @@ fn clean_blocks<M: Media>(
     lbas: &[u64],
 ) -> Result<(), VolumeError>
     requires may { MayServe disk.old (M.state media.old).contents }
+    requires settled { list_any is_write (pending disk.old.cache) ≡ false }
     requires back { disk.old.mode ≡ Back }
     requires lbas { (a : ℕ) → is_among lbas.now a ≡ true → a < disk.old.options.geometry.size }
     requires flushed { IsFlushed (M.state media.old).contents }
@@ -158,6 +209,7 @@ fn clean_blocks<M: Media>(
 /// Marks the block of an address clean. On `Err` the cache was given up, and the volume is down.
 fn clean_block<M: Media>(disk: &mut CachedDisk, media: &mut M, lba: u64) -> Result<(), VolumeError>
     requires may { MayServe disk.old (M.state media.old).contents }
+    requires settled { list_any is_write (pending disk.old.cache) ≡ false }
     requires back { disk.old.mode ≡ Back }
     requires lba { lba < disk.old.options.geometry.size }
     requires flushed { IsFlushed (M.state media.old).contents }

@@ -1,12 +1,11 @@
-ghost use Rattle.std.specs.Prelude.{◌≡◌, length, false, OnOk, IfOk};
+ghost use Rattle.std.specs.Prelude.{◌≡◌, List, [], length, false, OnOk, IfOk};
 ghost use Rattle.ft_base.specs.declared.told.Mode.TheVariants.{Back};
-ghost use Rattle.ft_base.specs.PlainDisk.{PlainDisk};
+ghost use Rattle.ft_base.specs.PlainDisk.{BlockWrite};
 ghost use Rattle.ft_volume.specs.Opening.{Creates, ImageIs, IsOpened, MayOpen, OpensVolume, nothing_held};
-ghost use Rattle.ft_volume.specs.Volume.{AsksDevices, ComesUp, Costs, Idles, IsCheckpointed, WasDone, idled_of, told_for};
-ghost use Rattle.ft_volume.specs.Standing.{StandFor};
+ghost use Rattle.ft_volume.specs.Volume.{AsksDevices, ComesUp, Costs, Idles, IsCheckpointed, idled_of, told_for};
 ghost use Rattle.op_log.specs.Log.{FitsOn};
 ghost use Rattle.ssc.specs.CacheState.{entries_of};
-ghost use Rattle.cached_disk.specs.Kept.{IsMadeAs, IsOpening, Loads, StandsOpened, WritesNothingRefused};
+ghost use Rattle.cached_disk.specs.Kept.{IsMadeAs, IsOpening, Loads, StandsOpened, StaysOwing, WritesNothingRefused};
 ghost use Rattle.cached_disk.specs.Kept as kept;
 ghost use Rattle.write_back.specs.Left.{IsLeft, Steps, state_of};
 ghost use Rattle.write_back.specs.Left as left;
@@ -16,7 +15,7 @@ use cached_disk::{CachedDisk, LoadedDisk};
 use dirty_table::DirtyTable;
 use ft_base::{Block, Outcome};
 use ft_media::{Media, Rig};
-use ft_volume::{Idled, Mode, Options, Report, Volume, VolumeError};
+use ft_volume::{Ack, Idled, Mode, Options, Report, Volume, VolumeError};
 use op_log::OpenError;
 use std::alloc::Global;
 
@@ -37,6 +36,7 @@ impl WriteBack {
     ) -> Result<WriteBack, VolumeError>
         requires shape { FitsOn options.now.geometry (R.state rig.old).contents.shape }
         ensures owns { IfOk result (λ v. IsLeft v (R.state rig.new).contents) }
+        ensures owes { IfOk result (λ v. left.owes v (R.state rig.new).contents []) }
         ensures opened { IfOk result (λ v. IsOpened (told_for Back options.now) nothing_held (state_of v)) }
         ensures creates { Creates (told_for Back options.now) (R.state rig.old) (R.state rig.new) result }
     {
@@ -60,6 +60,7 @@ impl WriteBack {
         requires shape { FitsOn options.now.geometry (R.state rig.old).contents.shape }
         requires agrees { MayOpen (told_for Back options.now) (R.state rig.old).contents }
         ensures owns { IfOk result (λ v. IsLeft v (R.state rig.new).contents) }
+        ensures owes { IfOk result (λ v. left.owes v (R.state rig.new).contents []) }
         ensures opened { IfOk result (λ v. OpensVolume (told_for Back options.now) (R.state rig.old).contents.flash.page (state_of v)
             (entries_of v.disk.cache)) }
         ensures opening { IsOpening options.now.geometry (R.state rig.old) (R.state rig.new) result }
@@ -84,6 +85,8 @@ impl WriteBack {
         ensures made { IsMadeAs self.old.disk self.new.disk }
         ensures comes { ComesUp ImageIs Loads (state_of self.old) (state_of self.new) (M.state media.old) (M.state media.new) result }
         ensures up { OnOk result (kept.is_down self.new.disk ≡ false) }
+        ensures owes { (owed : List BlockWrite) → left.owes self.old (M.state media.old).contents owed
+            → left.owes self.new (M.state media.new).contents owed }
         ensures same { kept.is_down self.old.disk ≡ false → (self.new ≡ self.old) × (M.state media.new ≡ M.state media.old) }
     {
         if !self.disk.is_down() {
@@ -110,8 +113,7 @@ impl WriteBack {
         requires left { IsLeft self.old (M.state media.old).contents }
         requires up { kept.is_down self.old.disk ≡ false }
         ensures steps { Steps self.old self.new (M.state media.old) (M.state media.new) result }
-        ensures was { (base : PlainDisk) → StandFor (ImageIs (state_of self.old).told) (M.state media.old).contents base
-            → WasDone ImageIs Idles (state_of self.old) (state_of self.new) (M.state media.new).contents result base }
+        ensures keeps { StaysOwing self.old.disk self.new.disk (M.state media.old).contents (M.state media.new).contents }
         ensures costs { Costs Idles (state_of self.old) (state_of self.new) (M.state media.old) (M.state media.new) result }
         ensures asks { AsksDevices Idles (state_of self.old) (state_of self.old) (state_of self.new) (M.state media.old)
             (M.state media.new) result }
@@ -132,20 +134,27 @@ impl WriteBack {
 }
 
 impl<R: Rig> Volume<R> for WriteBack {
-    ghost use Rattle.std.specs.Prelude.{refl};
+    ghost use Rattle.cached_disk.proofs.OwedLemmas.{few_owed, write_owed};
+    ghost use Rattle.cached_disk.proofs.ReadLemmas.{down_owes, owes_some};
     ghost use Rattle.cached_disk.proofs.ReportLemmas.{held_by};
 
     ghost state = { λ v. left.state_of v };
 
     ghost owns = { λ v contents. left.IsLeft v contents };
 
+    ghost owes = { λ v contents owed. left.owes v contents owed };
+
     ghost stands = { λ told x d. ImageIs told x d };
 
     ghost loads = { λ told page m. kept.Loads told page m };
 
-    ghost down_owes_nothing = { λ v contents owned down. refl };
+    ghost owes_some = { λ v contents owned. owes_some v.disk contents owned.disk };
 
-    ghost write_owes_nothing = { λ v contents owned at_write. refl };
+    ghost down_owes_nothing = { λ v contents owed owned down owes. down_owes v.disk contents owed down owes };
+
+    ghost write_owes_nothing = { λ v contents owed owned at_write owes. write_owed v.disk contents owed at_write owes };
+
+    ghost few_owed = { λ v contents owed owned owes. few_owed v.disk contents owed owes };
 
     ghost can_be_loaded = { λ v contents owned. (owned.disk.beneath.flash.loaded, owned.disk.beneath.flash.loads) };
 
@@ -157,6 +166,14 @@ impl<R: Rig> Volume<R> for WriteBack {
 
     fn is_down(&self) -> bool {
         self.disk.is_down()
+    }
+
+    fn owed(&self) -> u32 {
+        self.disk.owed()
+    }
+
+    fn ack(&self) -> Ack {
+        self.disk.ack()
     }
 
     fn read(&mut self, rig: &mut R, lba: u64, block: &mut Block) -> Result<(), VolumeError> {

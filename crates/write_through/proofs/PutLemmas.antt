@@ -10,6 +10,7 @@ use Rattle.ft_base.specs.declared.block.Page.{Page}
 use Rattle.ft_base.specs.Contents.{Contents, HasValue, Image, Now, Shape, Values, flushed, set, written}
 use Rattle.ft_base.specs.PlainDisk.{PlainDisk}
 use Rattle.ft_base.specs.Told.{Told}
+use Rattle.ft_base.specs.declared.told.Mode.TheVariants.{Through}
 use Rattle.ft_base.proofs.Images.{set_here, set_other}
 use Rattle.ft_media.specs.Media.{Crashed, after_write}
 use Rattle.ft_volume.specs.Opening.{ImageIs}
@@ -23,14 +24,14 @@ use Rattle.cache_model.specs.Stands.{FlashStandsFor}
 use Rattle.cache_model.proofs.UndoLemmas.{get_undo, undone_at}
 use Rattle.op_log.specs.Log.{FitsOn}
 use Rattle.ssc.specs.declared.cache.Ssc.{Ssc}
-use Rattle.ssc.specs.CacheState.{Holds, entries_of}
+use Rattle.ssc.specs.CacheState.{Holds, entries_of, pending}
 use Rattle.ssc.proofs.HoldsLemmas.{undone_none}
 use Rattle.cached_disk.specs.declared.disk.CachedDisk.{CachedDisk}
 use Rattle.cached_disk.specs.Kept.{IsBeneath, IsHeld, IsLeft, is_down, told_of}
 use Rattle.cached_disk.proofs.AddressLemmas.{holds_held}
 use Rattle.cached_disk.proofs.DiskLemmas.{IsOver, one_value}
 use Rattle.cached_disk.proofs.ReadLemmas.{not_some}
-use Rattle.cached_disk.proofs.HeldLemmas.{down_left, held_agrees, held_at_write, held_beneath, held_left, held_over, holds_over, none_later, undone, undone_over}
+use Rattle.cached_disk.proofs.HeldLemmas.{base_over, down_left, held_agrees, held_beneath, held_left, held_no_write, holds_over, none_later, through_none, undone}
 
 -- each value is one that the disk had, or the block
 abbrev pub IsOldOr : Contents → Contents → ℕ → Block → Type 0
@@ -140,9 +141,12 @@ module _ (lba : ℕ) (block : Block) (old new : Contents) (values : IsOldOr old 
 
 -- ---- over a volume that is up
 
-module _ (v : CachedDisk) (old new : Contents) (left : IsLeft v old) (up : is_down v ≡ false) (lba : ℕ) (block : Block) (values : IsOldOr old new lba block) (none : is_some (get (entries_of v.cache) lba) ≡ false) (shape : new.shape ≡ old.shape) where
+module _ (v : CachedDisk) (old new : Contents) (left : IsLeft v old) (up : is_down v ≡ false) (lba : ℕ) (block : Block) (values : IsOldOr old new lba block) (none : is_some (get (entries_of v.cache) lba) ≡ false) (shape : new.shape ≡ old.shape) (through : v.mode ≡ Through) where
   is : IsHeld v old left.held
   is = left.up up
+
+  no_write : list_any is_write (pending v.cache) ≡ false
+  no_write = through_none v through is.may_undo
 
   absent : get left.held lba ≡ None
   absent = absent_of v.cache old left.held is.holds lba none
@@ -152,7 +156,7 @@ module _ (v : CachedDisk) (old new : Contents) (left : IsLeft v old) (up : is_do
 
   pub put_left : new.flash ≡ old.flash → IsPut old new lba block → IsLeft v new
   put_left flash put = held_left v new left.held left.own
-      (held_at_write v new left.held (holds_over v.cache old new left.held flash shape is.holds)
+      (held_no_write v new left.held no_write (holds_over v.cache old new left.held flash shape is.holds)
       (agrees_now lba block old new values left.held absent (held_agrees v old left.held is))
       (λ a. inl (ap (λ (x : Values). x.earlier) (put a))) is.suits is.may_undo) fits
 
@@ -161,7 +165,7 @@ module _ (v : CachedDisk) (old new : Contents) (left : IsLeft v old) (up : is_do
     beneath_list = undone v old left.held left.own is
 
     beneath_absent : get beneath_list lba ≡ None
-    beneath_absent = undone_absent is.holds.waiting left.held lba (none_later v is.may_undo old left.held is.holds).1 absent
+    beneath_absent = undone_absent is.holds.waiting left.held lba (none_later v no_write old left.held is.holds).1 absent
 
     beneath_old : IsBeneath (told_of v) old beneath_list
     beneath_old = held_beneath v old left.held left.own is
@@ -171,7 +175,7 @@ module _ (v : CachedDisk) (old new : Contents) (left : IsLeft v old) (up : is_do
 
     module _ (inside : lba < v.options.geometry.size) (d : PlainDisk) (stand : StandFor (ImageIs (told_of v)) old d) where
       over : IsOver v.options.geometry beneath_list old.disk d
-      over = undone_over v old left.held left.own is d (held_over v old left.held left.own is d stand)
+      over = base_over v old left.held left.own is d stand
 
       pub put_stands : IsPut old new lba block → StandFor (ImageIs (told_of v)) new (set d lba block)
       put_stands = stands_now lba block old new values beneath_list beneath_absent (told_of v) beneath_old page d over inside

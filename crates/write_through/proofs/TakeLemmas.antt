@@ -22,7 +22,7 @@ use Rattle.cached_disk.specs.declared.disk.CachedDisk.{CachedDisk}
 use Rattle.cached_disk.specs.Kept.{IsDirtyIn, IsHeld, MayUndo, told_of}
 use Rattle.cached_disk.proofs.AddressLemmas.{holds_held}
 use Rattle.cached_disk.proofs.HeldLemmas.{held_agrees, suits_less}
-use Rattle.cached_disk.proofs.ReadLemmas.{IsShown, ShowsSame, commit_shows, may_none}
+use Rattle.cached_disk.proofs.ReadLemmas.{IsShown, ShowsSame, commit_shows, may_none, shown_by}
 use Rattle.cached_disk.proofs.StepLemmas.{IsSameOver, not_dirty_beneath, over_same}
 
 module _ (s : CacheList) (lba : ℕ) where
@@ -75,10 +75,10 @@ module _ (v : CachedDisk) (contents : Contents) (s : CacheList) (own : geometry_
     evicted_keeps a dirty = absurd (none_dirty a dirty)
 
     -- whenever it was cut
-    pub evict_shows : (page : Place → Page) → FlashStandsForOne (geometry_of v.cache) page (undo is.holds.waiting s) s (evicted lba s) → IsShown v contents s page
+    pub evict_shows : (page : Place → Page) → FlashStandsForOne (geometry_of v.cache) page (undo is.holds.waiting s) s (evicted lba s) → IsShown v contents (undo is.holds.waiting s) s page
     evict_shows page (AsUndone x) = commit_shows v contents s own is page (AsUndone x)
     evict_shows page (AsBefore x) = commit_shows v contents s own is page (AsBefore x)
-    evict_shows page (AsAfter x) = record { list = evicted lba s; stands = subst (λ (g : Geometry). FlashStandsFor g page (evicted lba s)) own x; shows = evicted_shows }
+    evict_shows page (AsAfter x) = shown_by v contents (undo is.holds.waiting s) s page (evicted lba s) (subst (λ (g : Geometry). FlashStandsFor g page (evicted lba s)) own x) evicted_shows
 
     -- nothing is buffered after that, or the old changes are
     pub evicted_may : (c : Ssc) → (IsHeldIn s lba → pending c ≡ []) → (get s lba ≡ None → c ≡ v.cache) → MayUndo (told_of v) (pending c)

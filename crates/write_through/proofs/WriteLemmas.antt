@@ -106,5 +106,6 @@ pub through_asks : {T : Type 0} (lba : ℕ) (block : Block) (old new : VolumeSta
 through_asks lba block old new before after r through most = record {
   flushes = let one : flushes_of (Writes lba block) old.told old.table ≡ 1 = ap (λ (m : Mode). flushes_written m old.told lba old.table) through in omega (arith, one, most);
   found = λ none. absurd none;
-  two_programs = always r _ (λ room. let no : Through ≡ Back = sym through ∙ room.back in absurd (cc));
+  two_programs = always r _ (λ room. let no : Through ≡ Back = sym through ∙ room.room.back in absurd (cc));
+  one_program = always r _ (λ room. let no : Through ≡ Back = sym through ∙ room.room.back in absurd (cc));
 }

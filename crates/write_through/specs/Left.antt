@@ -1,6 +1,7 @@
 -- A volume that writes through, and the media that it leaves.
-use Rattle.std.specs.Prelude.{◌≡◌, ◌<◌, ℕ, false, [], Result, IsErrOf}
+use Rattle.std.specs.Prelude.{◌≡◌, ◌<◌, ℕ, false, List, [], Result, IsErrOf}
 use Rattle.ft_base.specs.Contents.{Contents}
+use Rattle.ft_base.specs.PlainDisk.{BlockWrite}
 use Rattle.ft_base.specs.declared.told.Mode.TheVariants.{Through}
 use Rattle.ft_media.specs.State.{State}
 use Rattle.ft_volume.specs.Volume.{Goes, VolumeState}
@@ -18,6 +19,10 @@ state_of v = state_in [] v.disk
 pub record IsLeft (v : WriteThrough) (contents : Contents) : Type 0 where
   pub disk : kept.IsLeft v.disk contents
   pub mode : v.disk.mode ≡ Through
+
+-- no write is owed: each is on the disk when it answers
+abbrev pub owes : WriteThrough → Contents → List BlockWrite → Type 0
+owes v contents owed = owed ≡ []
 
 -- the volume is up, and the address is one of its own
 pub record MayWrite (v : WriteThrough) (contents : Contents) (a : ℕ) : Type 0 where

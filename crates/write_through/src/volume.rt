@@ -1,4 +1,4 @@
-ghost use Rattle.std.specs.Prelude.{◌≡◌, false, OnOk, IfOk};
+ghost use Rattle.std.specs.Prelude.{◌≡◌, [], false, OnOk, IfOk};
 ghost use Rattle.ft_base.specs.declared.told.Mode.TheVariants.{Through};
 ghost use Rattle.ft_volume.specs.Opening.{Creates, ImageIs, IsOpened, MayOpen, OpensVolume, nothing_held};
 ghost use Rattle.ft_volume.specs.Volume.{ComesUp, told_for};
@@ -12,7 +12,7 @@ ghost use Rattle.write_through.specs.Left as left;
 use cached_disk::CachedDisk;
 use ft_base::{Block, Outcome};
 use ft_media::{Media, Rig};
-use ft_volume::{Idled, Mode, Options, Report, Volume, VolumeError};
+use ft_volume::{Ack, Idled, Mode, Options, Report, Volume, VolumeError};
 use op_log::OpenError;
 use std::alloc::Global;
 
@@ -31,6 +31,7 @@ impl WriteThrough {
     ) -> Result<WriteThrough, VolumeError>
         requires shape { FitsOn options.now.geometry (R.state rig.old).contents.shape }
         ensures owns { IfOk result (λ v. IsLeft v (R.state rig.new).contents) }
+        ensures owes { IfOk result (λ v. left.owes v (R.state rig.new).contents []) }
         ensures opened { IfOk result (λ v. IsOpened (told_for Through options.now) nothing_held (state_of v)) }
         ensures creates { Creates (told_for Through options.now) (R.state rig.old) (R.state rig.new) result }
     {
@@ -50,6 +51,7 @@ impl WriteThrough {
         requires shape { FitsOn options.now.geometry (R.state rig.old).contents.shape }
         requires agrees { MayOpen (told_for Through options.now) (R.state rig.old).contents }
         ensures owns { IfOk result (λ v. IsLeft v (R.state rig.new).contents) }
+        ensures owes { IfOk result (λ v. left.owes v (R.state rig.new).contents []) }
         ensures opened { IfOk result (λ v. OpensVolume (told_for Through options.now) (R.state rig.old).contents.flash.page (state_of v)
             (entries_of v.disk.cache)) }
         ensures opening { IsOpening options.now.geometry (R.state rig.old) (R.state rig.new) result }
@@ -74,20 +76,27 @@ impl WriteThrough {
 }
 
 impl<R: Rig> Volume<R> for WriteThrough {
-    ghost use Rattle.std.specs.Prelude.{refl};
+    ghost use Rattle.std.specs.Prelude.{refl, []};
+    ghost use Rattle.cached_disk.proofs.OwedLemmas.{few_none};
     ghost use Rattle.cached_disk.proofs.ReportLemmas.{held_by};
 
     ghost state = { λ v. left.state_of v };
 
     ghost owns = { λ v contents. left.IsLeft v contents };
 
+    ghost owes = { λ v contents owed. left.owes v contents owed };
+
     ghost stands = { λ told x d. ImageIs told x d };
 
     ghost loads = { λ told page m. kept.Loads told page m };
 
-    ghost down_owes_nothing = { λ v contents owned down. refl };
+    ghost owes_some = { λ v contents owned. ([], refl) };
 
-    ghost write_owes_nothing = { λ v contents owned at_write. refl };
+    ghost down_owes_nothing = { λ v contents owed owned down owes. owes };
+
+    ghost write_owes_nothing = { λ v contents owed owned at_write owes. owes };
+
+    ghost few_owed = { λ v contents owed owned owes. few_none owed owes };
 
     ghost can_be_loaded = { λ v contents owned. (owned.disk.beneath.flash.loaded, owned.disk.beneath.flash.loads) };
 
@@ -99,6 +108,14 @@ impl<R: Rig> Volume<R> for WriteThrough {
 
     fn is_down(&self) -> bool {
         self.disk.is_down()
+    }
+
+    fn owed(&self) -> u32 {
+        0
+    }
+
+    fn ack(&self) -> Ack {
+        self.disk.ack()
     }
 
     fn read(&mut self, rig: &mut R, lba: u64, block: &mut Block) -> Result<(), VolumeError> {

@@ -1,5 +1,5 @@
 use Rattle.ft_base.specs.declared.told.Mode.TheVariants.{Back}
-use Rattle.write_back.specs.Left.{IsLeft, state_of}
+use Rattle.write_back.specs.Left.{IsLeft, owes, state_of}
 use Rattle.cache_run.proofs.BeginLemmas.{new_from}
 use Rattle.cache_run.proofs.beginning.begin_back.Goals as goal
 
@@ -7,5 +7,5 @@ pub returns-in-Ok-create-clause-new : goal.returns-in-Ok-create-clause-new
 returns-in-Ok-create-clause-new g c =
     let volume = c.in-Ok-create.volume in
     let made = c.in-Ok-create.ensures in
-    new_from Back c.args.options.now (IsLeft volume) (state_of volume) (g.R.Media.state c.args.rig.now) (g.R.Media.state c.fit_for.new.rig) (g.R.Media.state c.create.new.rig) c.in-Ok.ensures.fitted
-    made.owns made.opened made.creates.stands made.creates.ready made.creates.disk_reads made.creates.disk_writes made.creates.cause.cuts made.creates.passes
+    new_from Back c.args.options.now (IsLeft volume) (owes volume) (state_of volume) (g.R.Media.state c.args.rig.now) (g.R.Media.state c.fit_for.new.rig) (g.R.Media.state c.create.new.rig) c.in-Ok.ensures.fitted
+    made.owns made.owes made.opened made.creates.stands made.creates.ready made.creates.disk_reads made.creates.disk_writes made.creates.cause.cuts made.creates.passes

@@ -2,6 +2,7 @@ use Rattle.std.proofs.Common.{ap, ◌∙◌, subst}
 use Rattle.std.proofs.lemmas.Result.{on_ok_weaker, IfErr-weaker}
 use Rattle.ft_base.specs.Told.{Told}
 use Rattle.trace_model.specs.Readings.{Reads}
+use Rattle.trace_model.specs.Run.{disk_without}
 use Rattle.trace_replay.specs.Commands.{TellsRefusal, TellsRefusalPart}
 use Rattle.cache_run.specs.Inspected.{PrintsFront, PrintsReport}
 use Rattle.cache_run.proofs.InspectLemmas.{early_on, inspected_by, inspected_lines}
@@ -9,6 +10,19 @@ use Rattle.trace_replay.proofs.ExitLemmas.{rose_later}
 use Rattle.cache_run.proofs.inspecting.inspect.Goals as goal
 
 -- ---- every line was run
+
+pub tell_report-requires : goal.tell_report-requires
+tell_report-requires g c =
+    let leaves = c.in-Ok.ensures.ends.leaves in
+    record {
+      can = record {
+        owns = c.replay_quiet.ensures.owner.0;
+        nothing_owed = c.in-Ok.ensures.nothing_owed;
+        disk = disk_without c.in-Ok.ensures.ends.lost c.in-Ok.ensures.ends.run;
+        stood = leaves.disk;
+        on = leaves.rig.on;
+      };
+    }
 
 pub returns-in-Ok-clause-told : goal.returns-in-Ok-clause-told
 returns-in-Ok-clause-told g c = c.tell_report.ensures.told ∙ c.replay_quiet.ensures.owner.1
@@ -27,7 +41,7 @@ returns-in-Ok-clause-ends g c =
     let asks = c.tell_report.ensures.asks in
     let causes = c.tell_report.ensures.causes in
     inspected_by o _ (g.V.Volume.stands mid) (g.V.Volume.stands after) (g.V.Volume.loads o) x y z first between now
-    c.in-Ok.ensures.ends c.in-Ok.ensures.silent asks.0 asks.1 c.tell_report.ensures.kept c.requires.fresh.ack c.tell_report.result asks.2
+    c.in-Ok.ensures.ends c.in-Ok.ensures.silent asks.0 asks.1 c.tell_report.ensures.kept c.tell_report.result asks.2
     (on_ok_weaker c.tell_report.result (λ prints. subst (λ (k : Told). PrintsReport k.geometry (g.V.Volume.loads k) now y z) c.replay_quiet.ensures.owner.1 prints) c.tell_report.ensures.printed)
     (λ broke. subst (λ (k : Told). PrintsFront k.geometry (g.V.Volume.loads k) now y z) c.replay_quiet.ensures.owner.1 (c.tell_report.ensures.short broke))
     (IfErr-weaker c.tell_report.result _ _ (λ e silent other. ap g.O.Sink.state (silent other)) c.tell_report.ensures.silent)

@@ -1,23 +1,30 @@
-use Rattle.std.proofs.Common.{refl, sym, ap, ◌∙◌, subst}
+use Rattle.std.proofs.Common.{refl, sym, subst, []}
 use Rattle.ft_base.specs.Told.{Told}
 use Rattle.ft_media.specs.State.{State}
-use Rattle.ft_volume.proofs.DoneLemmas.{one_disk}
 use Rattle.ft_volume.specs.Volume.{Costs, Goes, opened_of}
 use Rattle.ft_volume.specs.Standing.{StandFor}
 use Rattle.ft_volume.specs.Volume.Call.{Reports}
 use Rattle.ft_volume.specs.declared.volume.VolumeError.{VolumeError}
 use Rattle.cache_run.specs.Inspected.{Asks}
 use Rattle.cache_run.proofs.AskLemmas.{answered, asks_cut, asks_still, at_device, disk_rose, flash_rose, not_lost}
+use Rattle.cache_run.proofs.OwedLemmas.{stays_none}
 use Rattle.cache_run.proofs.reporting.report_once.Goals as goal
 
 -- ---- it gave a report
 
 pub returns-in-Ok-clause-kept : goal.returns-in-Ok-clause-kept
 returns-in-Ok-clause-kept g c = λ d stood.
-    let v = g.V.Volume.state c.report.new.self in
-    let none = g.met.V.Volume.write_owes_nothing c.args.volume.now _ c.requires.can.owns in
-    let none_new = g.met.V.Volume.write_owes_nothing c.report.new.self _ c.report.ensures.owns in
-    (one_disk g.V.Volume.stands Reports (g.V.Volume.state c.args.volume.now) v _ _ _ d (none c.requires.can.ack) (none_new (ap (λ (t : Told). t.ack) c.in-Ok.ensures.goes.told ∙ c.requires.can.ack)) c.in-Ok.ensures.disk stood).kept refl
+    let stays =
+    stays_none (g.V.Volume.owes c.args.volume.now (g.R.Media.state c.args.rig.now).contents) (g.V.Volume.owes c.report.new.self (g.R.Media.state c.report.new.rig).contents) g.V.Volume.stands Reports
+    (g.V.Volume.state c.args.volume.now) (g.V.Volume.state c.report.new.self) _ _ _ d refl (λ owed. g.met.V.Volume.down_owes_nothing c.report.new.self _ owed c.report.ensures.owns) (λ is. absurd (cc)) c.requires.can.nothing_owed c.in-Ok.ensures.disk stood in
+    stays.one.kept refl
+
+pub returns-in-Ok-clause-nothing_owed : goal.returns-in-Ok-clause-nothing_owed
+returns-in-Ok-clause-nothing_owed g c =
+    let stays =
+    stays_none (g.V.Volume.owes c.args.volume.now (g.R.Media.state c.args.rig.now).contents) (g.V.Volume.owes c.report.new.self (g.R.Media.state c.report.new.rig).contents) g.V.Volume.stands Reports
+    (g.V.Volume.state c.args.volume.now) (g.V.Volume.state c.report.new.self) _ _ _ c.requires.can.disk refl (λ owed. g.met.V.Volume.down_owes_nothing c.report.new.self _ owed c.report.ensures.owns) (λ is. absurd (cc)) c.requires.can.nothing_owed c.in-Ok.ensures.disk c.requires.can.stood in
+    stays.owed
 
 pub returns-in-Ok-clause-asks : goal.returns-in-Ok-clause-asks
 returns-in-Ok-clause-asks g c =
@@ -37,11 +44,17 @@ returns-in-Ok-clause-report g c =
 
 pub returns-in-Ok-power_again-clause-kept : goal.returns-in-Ok-power_again-clause-kept
 returns-in-Ok-power_again-clause-kept g c = λ d stood.
-    let v = g.V.Volume.state c.report.new.self in
-    let none = g.met.V.Volume.write_owes_nothing c.args.volume.now _ c.requires.can.owns in
-    let none_new = g.met.V.Volume.write_owes_nothing c.report.new.self _ c.report.ensures.owns in
-    let stay = (one_disk g.V.Volume.stands Reports (g.V.Volume.state c.args.volume.now) v _ _ _ d (none c.requires.can.ack) (none_new (ap (λ (t : Told). t.ack) c.in-Err.ensures.goes.told ∙ c.requires.can.ack)) c.in-Err.ensures.disk stood).kept refl in
-    subst (λ (s : State). StandFor (g.V.Volume.stands v.told) s.contents d) (sym c.in-Ok-power_again.ensures.powered) stay
+    let stays =
+    stays_none (g.V.Volume.owes c.args.volume.now (g.R.Media.state c.args.rig.now).contents) (g.V.Volume.owes c.report.new.self (g.R.Media.state c.report.new.rig).contents) g.V.Volume.stands Reports
+    (g.V.Volume.state c.args.volume.now) (g.V.Volume.state c.report.new.self) _ _ _ d refl (λ owed. g.met.V.Volume.down_owes_nothing c.report.new.self _ owed c.report.ensures.owns) c.in-Err.ensures.within c.requires.can.nothing_owed c.in-Err.ensures.disk stood in
+    subst (λ (s : State). StandFor (g.V.Volume.stands (g.V.Volume.state c.report.new.self).told) s.contents d) (sym c.in-Ok-power_again.ensures.powered) (stays.one.kept refl)
+
+pub returns-in-Ok-power_again-clause-nothing_owed : goal.returns-in-Ok-power_again-clause-nothing_owed
+returns-in-Ok-power_again-clause-nothing_owed g c =
+    let stays =
+    stays_none (g.V.Volume.owes c.args.volume.now (g.R.Media.state c.args.rig.now).contents) (g.V.Volume.owes c.report.new.self (g.R.Media.state c.report.new.rig).contents) g.V.Volume.stands Reports
+    (g.V.Volume.state c.args.volume.now) (g.V.Volume.state c.report.new.self) _ _ _ c.requires.can.disk refl (λ owed. g.met.V.Volume.down_owes_nothing c.report.new.self _ owed c.report.ensures.owns) c.in-Err.ensures.within c.requires.can.nothing_owed c.in-Err.ensures.disk c.requires.can.stood in
+    subst (λ (s : State). g.V.Volume.owes c.report.new.self s.contents []) (sym c.in-Ok-power_again.ensures.powered) stays.owed
 
 pub returns-in-Ok-power_again-clause-asks : goal.returns-in-Ok-power_again-clause-asks
 returns-in-Ok-power_again-clause-asks g c =
@@ -60,11 +73,17 @@ returns-in-Ok-power_again-clause-asks g c =
 
 pub returns-in-Err-power_again-clause-kept : goal.returns-in-Err-power_again-clause-kept
 returns-in-Err-power_again-clause-kept g c = λ d stood.
-    let v = g.V.Volume.state c.report.new.self in
-    let none = g.met.V.Volume.write_owes_nothing c.args.volume.now _ c.requires.can.owns in
-    let none_new = g.met.V.Volume.write_owes_nothing c.report.new.self _ c.report.ensures.owns in
-    let stay = (one_disk g.V.Volume.stands Reports (g.V.Volume.state c.args.volume.now) v _ _ _ d (none c.requires.can.ack) (none_new (ap (λ (t : Told). t.ack) c.in-Err.ensures.goes.told ∙ c.requires.can.ack)) c.in-Err.ensures.disk stood).kept refl in
-    subst (λ (s : State). StandFor (g.V.Volume.stands v.told) s.contents d) (sym c.in-Err-power_again.ensures.same) stay
+    let stays =
+    stays_none (g.V.Volume.owes c.args.volume.now (g.R.Media.state c.args.rig.now).contents) (g.V.Volume.owes c.report.new.self (g.R.Media.state c.report.new.rig).contents) g.V.Volume.stands Reports
+    (g.V.Volume.state c.args.volume.now) (g.V.Volume.state c.report.new.self) _ _ _ d refl (λ owed. g.met.V.Volume.down_owes_nothing c.report.new.self _ owed c.report.ensures.owns) c.in-Err.ensures.within c.requires.can.nothing_owed c.in-Err.ensures.disk stood in
+    subst (λ (s : State). StandFor (g.V.Volume.stands (g.V.Volume.state c.report.new.self).told) s.contents d) (sym c.in-Err-power_again.ensures.same) (stays.one.kept refl)
+
+pub returns-in-Err-power_again-clause-nothing_owed : goal.returns-in-Err-power_again-clause-nothing_owed
+returns-in-Err-power_again-clause-nothing_owed g c =
+    let stays =
+    stays_none (g.V.Volume.owes c.args.volume.now (g.R.Media.state c.args.rig.now).contents) (g.V.Volume.owes c.report.new.self (g.R.Media.state c.report.new.rig).contents) g.V.Volume.stands Reports
+    (g.V.Volume.state c.args.volume.now) (g.V.Volume.state c.report.new.self) _ _ _ c.requires.can.disk refl (λ owed. g.met.V.Volume.down_owes_nothing c.report.new.self _ owed c.report.ensures.owns) c.in-Err.ensures.within c.requires.can.nothing_owed c.in-Err.ensures.disk c.requires.can.stood in
+    subst (λ (s : State). g.V.Volume.owes c.report.new.self s.contents []) (sym c.in-Err-power_again.ensures.same) stays.owed
 
 pub returns-in-Err-power_again-clause-asks : goal.returns-in-Err-power_again-clause-asks
 returns-in-Err-power_again-clause-asks g c =

@@ -15,16 +15,22 @@ err_as : {A B : Type 0} (e x : Ended) → IsErrOf {T = A} (Err e) x → IsErrOf 
 err_as e x is = let same : e ≡ x = cc in ap Err same
 
 pub again-init : goal.again-init
-again-init g c = record { owns = c.requires.can.owns; told = refl; ack = c.requires.can.ack; kept = λ d stood. stood; asks = (0, asks_none _ c.requires.can.on, λ none. refl) }
+again-init g c = record { can = c.requires.can; told = refl; kept = λ d stood. stood; asks = (0, asks_none _ c.requires.can.on, λ none. refl) }
 
 pub again-preserved : goal.again-preserved
 again-preserved g c =
+    let can = c.again.invariant.can in
     let asks = c.again.invariant.asks in
     let cut : Asks 1 (g.R.Media.state c.again.rig) (g.R.Media.state c.report_once.new.rig) = subst (λ (f : Option Report). Asks (cuts_by (Ok f)) (g.R.Media.state c.again.rig) (g.R.Media.state c.report_once.new.rig)) c.in-Ok-None.field-0-is c.in-Ok-None.ensures.asks in
     record {
-      owns = c.report_once.ensures.owner.0;
+      can = record {
+        owns = c.report_once.ensures.owner.0;
+        nothing_owed = c.report_once.ensures.nothing_owed;
+        disk = can.disk;
+        stood = c.report_once.ensures.kept can.disk can.stood;
+        on = cut.on;
+      };
       told = c.report_once.ensures.owner.1 ∙ c.again.invariant.told;
-      ack = ap (λ (t : Told). t.ack) c.report_once.ensures.owner.1 ∙ c.again.invariant.ack;
       kept = λ d stood. c.report_once.ensures.kept d (c.again.invariant.kept d stood);
       asks = (asks.0 + 1, asks_then asks.0 1 _ _ _ asks.1 cut, λ none. absurd (omega (arith, none)));
     }

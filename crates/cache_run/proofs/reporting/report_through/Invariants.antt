@@ -1,7 +1,6 @@
 use Rattle.std.proofs.Common.{◌≡◌, ℕ, length}
-use Rattle.ft_base.specs.declared.told.Ack.TheVariants as ack
 use Rattle.trace_replay.specs.Went.{Keeps}
-use Rattle.cache_run.specs.Inspected.{Asks}
+use Rattle.cache_run.specs.Inspected.{Asks, CanReport}
 use Rattle.cache_run.proofs.reporting.report_through.Given as goal
 
 abbrev pub invariant-again : goal.invariant-again
@@ -11,9 +10,8 @@ invariant-again g l =
     let was = g.V.Volume.state l.fn.volume in
     let is = g.V.Volume.state l.volume in
     record {
-      owns : g.V.Volume.owns l.volume now.contents;
+      can : CanReport (g.V.Volume.owns l.volume) (g.V.Volume.owes l.volume) (g.V.Volume.stands is.told) now;
       told : is.told ≡ was.told;
-      ack : is.told.ack ≡ ack.Write;
       kept : Keeps (g.V.Volume.stands was.told) (g.V.Volume.stands is.told) first.contents now.contents;
       asks : (cuts : ℕ) × Asks cuts first now × (cuts ≡ 0 → now ≡ first);
     }

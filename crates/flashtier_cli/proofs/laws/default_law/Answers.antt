@@ -12,12 +12,11 @@ returns-clause-replay c = λ o is.
       spelled = record { spelled = refl; known = tt; once = tt };
       says =
           record {
-            mode = is.mode;
+            writes = record { mode = is.mode; ack = is.ack; later = λ flush. is.mode };
             numbers = record { pages = is.pages; data_blocks = is.data_blocks; log_blocks = is.log_blocks; journal = is.journal; size = is.size };
             dirty =
                 let dirty = is.dirty in let data_blocks = is.data_blocks in
                 record { given = is.dirty ∙ sym (ap (λ (n : ℕ). (n + 1) / 2) is.data_blocks); low = omega arith; high = omega arith };
-            ack = is.ack;
             devices = record { flash = Plain; parity = Off };
             over = record { flash = refl; parity = refl };
           };

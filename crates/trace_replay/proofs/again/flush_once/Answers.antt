@@ -1,9 +1,10 @@
-use Rattle.std.proofs.Common.{[], refl, ap, subst}
+use Rattle.std.proofs.Common.{[], refl, ap, subst, true, false, Err, arith}
 use Rattle.ft_base.specs.Contents.{Contents}
 use Rattle.ft_volume.specs.Standing.{StandFor}
 use Rattle.ft_volume.specs.Volume.Call.{Flushes}
 use Rattle.trace_replay.specs.Went.{cut_if}
-use Rattle.trace_replay.proofs.CallLemmas.{one_call, still_contents, was_call}
+use Rattle.trace_replay.proofs.OwingLemmas.{call_ends, call_lost, call_ok, clear_kept, clear_lost, clear_ok, owing_flushed}
+use Rattle.trace_replay.proofs.CallLemmas.{still_contents, was_call}
 use Rattle.trace_replay.proofs.WentLemmas.{refused, went_call, went_ends}
 use Rattle.trace_replay.proofs.SpendsLemmas.{call_most, call_never_lost, call_spent, spends_ends}
 use Rattle.trace_replay.proofs.again.flush_once.Goals as goal
@@ -16,23 +17,6 @@ returns-in_err-go_on-in-Err-clause-went g c =
     (λ lost. let said = c.in_err-go_on-in-Err.ensures.said lost in (c.go_on.ensures.powered lost, said.goes, said.ended))
     c.go_on.ensures.same c.in_err-go_on-in-Err.ensures.ended in
     went_ends g.P.Script.state g.P.Script.came g.P.Script.broke g.P.Script.knows cut_if 0 _ _ _ _ c.from_residual.result _ c.from_residual.ensures.1 went.0 went.1.0
-
-pub returns-in_err-go_on-in-Err-clause-kept : goal.returns-in_err-go_on-in-Err-clause-kept
-returns-in_err-go_on-in-Err-clause-kept g c = λ d stood.
-    subst (λ (k : Contents). StandFor (g.V.Volume.stands (g.V.Volume.state c.flush.new.self).told) k d) (still_contents c.in-Err.error _ _ c.go_on.ensures.powered c.go_on.ensures.same)
-    ((one_call g.V.Volume.stands (Flushes) (g.V.Volume.state c.args.volume.now) (g.V.Volume.state c.flush.new.self) _ _ _ d (g.met.V.Volume.write_owes_nothing c.args.volume.now _ c.requires.can.owns)
-    (g.met.V.Volume.write_owes_nothing c.flush.new.self _ c.flush.ensures.owns) c.requires.can.ack c.flush.ensures.goes.told c.in-Err.ensures.disk stood).kept refl)
-
-pub returns-in_ok-go_on-in-Err-clause-kept : goal.returns-in_ok-go_on-in-Err-clause-kept
-returns-in_ok-go_on-in-Err-clause-kept g c = λ d stood.
-    subst (λ (k : Contents). StandFor (g.V.Volume.stands (g.V.Volume.state c.flush.new.self).told) k d) (still_contents c.in-Err.error _ _ c.go_on.ensures.powered c.go_on.ensures.same)
-    ((one_call g.V.Volume.stands (Flushes) (g.V.Volume.state c.args.volume.now) (g.V.Volume.state c.flush.new.self) _ _ _ d (g.met.V.Volume.write_owes_nothing c.args.volume.now _ c.requires.can.owns)
-    (g.met.V.Volume.write_owes_nothing c.flush.new.self _ c.flush.ensures.owns) c.requires.can.ack c.flush.ensures.goes.told c.in-Err.ensures.disk stood).kept refl)
-
-pub returns-in-Ok-clause-kept : goal.returns-in-Ok-clause-kept
-returns-in-Ok-clause-kept g c = λ d stood. (one_call g.V.Volume.stands (Flushes) (g.V.Volume.state c.args.volume.now) (g.V.Volume.state c.flush.new.self) _ _ _ d
-    (g.met.V.Volume.write_owes_nothing c.args.volume.now _ c.requires.can.owns) (g.met.V.Volume.write_owes_nothing c.flush.new.self _ c.flush.ensures.owns)
-    c.requires.can.ack c.flush.ensures.goes.told c.in-Ok.ensures.disk stood).kept refl
 
 pub returns-in_err-go_on-in-Err-clause-spends : goal.returns-in_err-go_on-in-Err-clause-spends
 returns-in_err-go_on-in-Err-clause-spends g c =
@@ -52,3 +36,41 @@ returns-in-Ok-clause-spends g c = record {
       (g.R.Media.state c.flush.new.rig) tt quiet (g.met.V.Volume.can_be_loaded c.args.volume.now _ c.requires.can.owns) c.in-Ok.ensures.costs c.in-Ok.ensures.goes;
   ended = tt;
 }
+
+pub returns-in_err-go_on-in-Err-clause-kept : goal.returns-in_err-go_on-in-Err-clause-kept
+returns-in_err-go_on-in-Err-clause-kept g c = λ none d stood.
+    subst (λ (k : Contents). StandFor (g.V.Volume.stands (g.V.Volume.state c.flush.new.self).told) k d) (still_contents c.in-Err.error _ _ c.go_on.ensures.powered c.go_on.ensures.same)
+    (clear_kept (g.V.Volume.owes c.args.volume.now (g.R.Media.state c.args.rig.now).contents) (g.V.Volume.owes c.flush.new.self (g.R.Media.state c.flush.new.rig).contents) g.V.Volume.stands Flushes (g.V.Volume.state c.args.volume.now) (g.V.Volume.state c.flush.new.self) (g.R.Media.state c.args.rig.now).contents (g.R.Media.state c.flush.new.rig).contents _ d refl none c.in-Err.ensures.disk stood)
+
+pub returns-in_ok-go_on-in-Err-clause-kept : goal.returns-in_ok-go_on-in-Err-clause-kept
+returns-in_ok-go_on-in-Err-clause-kept g c = λ none d stood.
+    subst (λ (k : Contents). StandFor (g.V.Volume.stands (g.V.Volume.state c.flush.new.self).told) k d) (still_contents c.in-Err.error _ _ c.go_on.ensures.powered c.go_on.ensures.same)
+    (clear_kept (g.V.Volume.owes c.args.volume.now (g.R.Media.state c.args.rig.now).contents) (g.V.Volume.owes c.flush.new.self (g.R.Media.state c.flush.new.rig).contents) g.V.Volume.stands Flushes (g.V.Volume.state c.args.volume.now) (g.V.Volume.state c.flush.new.self) (g.R.Media.state c.args.rig.now).contents (g.R.Media.state c.flush.new.rig).contents _ d refl none c.in-Err.ensures.disk stood)
+
+pub returns-in-Ok-clause-kept : goal.returns-in-Ok-clause-kept
+returns-in-Ok-clause-kept g c = λ none d stood. clear_kept (g.V.Volume.owes c.args.volume.now (g.R.Media.state c.args.rig.now).contents) (g.V.Volume.owes c.flush.new.self (g.R.Media.state c.flush.new.rig).contents) g.V.Volume.stands Flushes (g.V.Volume.state c.args.volume.now) (g.V.Volume.state c.flush.new.self) (g.R.Media.state c.args.rig.now).contents (g.R.Media.state c.flush.new.rig).contents _ d refl none c.in-Ok.ensures.disk stood
+
+pub returns-in_ok-go_on-in-Err-clause-clear : goal.returns-in_ok-go_on-in-Err-clause-clear
+returns-in_ok-go_on-in-Err-clause-clear g c = λ clear.
+    clear_lost cut_if (g.V.Volume.owes c.args.volume.now (g.R.Media.state c.args.rig.now).contents) (g.V.Volume.owes c.flush.new.self) g.V.Volume.stands Flushes (g.V.Volume.state c.args.volume.now) (g.V.Volume.state c.flush.new.self) (g.R.Media.state c.args.rig.now).contents (g.R.Media.state c.flush.new.rig).contents c.in-Err.error _ c.in_ok-go_on-in-Err.ensures.lost (still_contents c.in-Err.error _ _ c.go_on.ensures.powered c.go_on.ensures.same) refl
+    (λ left owed. g.met.V.Volume.down_owes_nothing c.flush.new.self _ left c.flush.ensures.owns (c.in-Err.ensures.goes.lost c.requires.can.on (ap Err c.in_ok-go_on-in-Err.ensures.lost)) owed) c.in-Err.ensures.disk clear
+
+pub returns-in-Ok-clause-clear : goal.returns-in-Ok-clause-clear
+returns-in-Ok-clause-clear g c = λ clear. clear_ok cut_if (g.V.Volume.owes c.args.volume.now (g.R.Media.state c.args.rig.now).contents) (g.V.Volume.owes c.flush.new.self) g.V.Volume.stands Flushes (g.V.Volume.state c.args.volume.now) (g.V.Volume.state c.flush.new.self) (g.R.Media.state c.args.rig.now).contents (g.R.Media.state c.flush.new.rig).contents tt refl c.in-Ok.ensures.disk clear
+
+pub returns-in_err-go_on-in-Err-clause-owing : goal.returns-in_err-go_on-in-Err-clause-owing
+returns-in_err-go_on-in-Err-clause-owing g c =
+    call_ends cut_if (g.V.Volume.owes c.args.volume.now (g.R.Media.state c.args.rig.now).contents) (g.V.Volume.owes c.flush.new.self) g.V.Volume.stands Flushes (g.V.Volume.state c.args.volume.now) (g.V.Volume.state c.flush.new.self) (g.R.Media.state c.args.rig.now).contents (g.R.Media.state c.flush.new.rig).contents c.from_residual.result _ c.in-Err.error _ c.from_residual.ensures.1
+    (still_contents c.in-Err.error _ _ c.go_on.ensures.powered c.go_on.ensures.same) c.in-Err.ensures.disk
+
+pub returns-in_ok-go_on-in-Err-clause-owing : goal.returns-in_ok-go_on-in-Err-clause-owing
+returns-in_ok-go_on-in-Err-clause-owing g c =
+    call_lost cut_if (g.V.Volume.owes c.args.volume.now (g.R.Media.state c.args.rig.now).contents) (g.V.Volume.owes c.flush.new.self) g.V.Volume.stands Flushes (g.V.Volume.state c.args.volume.now) (g.V.Volume.state c.flush.new.self) (g.R.Media.state c.args.rig.now).contents (g.R.Media.state c.flush.new.rig).contents true c.in-Err.error _ c.in_ok-go_on-in-Err.ensures.lost (still_contents c.in-Err.error _ _ c.go_on.ensures.powered c.go_on.ensures.same) (omega arith)
+    (g.met.V.Volume.owes_some c.args.volume.now _ c.requires.can.owns)
+    (λ left owed. g.met.V.Volume.down_owes_nothing c.flush.new.self _ left c.flush.ensures.owns (c.in-Err.ensures.goes.lost c.requires.can.on (ap Err c.in_ok-go_on-in-Err.ensures.lost)) owed) c.in-Err.ensures.disk
+
+pub returns-in-Ok-clause-owing : goal.returns-in-Ok-clause-owing
+returns-in-Ok-clause-owing g c = call_ok cut_if (g.V.Volume.owes c.args.volume.now (g.R.Media.state c.args.rig.now).contents) (g.V.Volume.owes c.flush.new.self) g.V.Volume.stands Flushes (g.V.Volume.state c.args.volume.now) (g.V.Volume.state c.flush.new.self) (g.R.Media.state c.args.rig.now).contents (g.R.Media.state c.flush.new.rig).contents tt false refl c.in-Ok.ensures.disk
+
+pub returns-in-Ok-clause-flushed : goal.returns-in-Ok-clause-flushed
+returns-in-Ok-clause-flushed g c = λ _ most writes o. owing_flushed (g.V.Volume.owes c.args.volume.now (g.R.Media.state c.args.rig.now).contents) (g.V.Volume.owes c.flush.new.self (g.R.Media.state c.flush.new.rig).contents) g.V.Volume.stands Flushes (g.V.Volume.state c.args.volume.now) (g.V.Volume.state c.flush.new.self) (g.R.Media.state c.args.rig.now).contents (g.R.Media.state c.flush.new.rig).contents most writes o tt c.in-Ok.ensures.nothing_owed c.in-Ok.ensures.disk

@@ -1,8 +1,10 @@
-use Rattle.std.proofs.Common.{◌∷◌, [], Err, refl, ap, subst}
+use Rattle.std.proofs.Common.{◌∷◌, [], Err, refl, ap, subst, ℕ, arith}
 use Rattle.ft_base.specs.Contents.{Contents}
 use Rattle.ft_volume.specs.Standing.{StandFor}
 use Rattle.ft_volume.specs.Volume.Call.{Idles}
-use Rattle.trace_replay.proofs.CallLemmas.{one_call, still_contents, was_call}
+use Rattle.ft_volume.specs.declared.volume.Idled.{Idled}
+use Rattle.trace_replay.proofs.OwingLemmas.{call_ends, call_lost, call_ok, clear_kept, clear_lost, clear_ok}
+use Rattle.trace_replay.proofs.CallLemmas.{still_contents, was_call}
 use Rattle.trace_replay.proofs.WentLemmas.{went_call, went_ends}
 use Rattle.trace_replay.proofs.ExitLemmas.{at_exit}
 use Rattle.ft_volume.specs.declared.volume.Idled.{Idled}
@@ -28,23 +30,6 @@ returns-in_err-go_on-in-Err-clause-ended g c =
     c.go_on.ensures.same c.in_err-go_on-in-Err.ensures.ended in
     at_exit c.from_residual.result _ _ c.from_residual.ensures.1 went.1
 
-pub returns-in_err-go_on-in-Err-clause-kept : goal.returns-in_err-go_on-in-Err-clause-kept
-returns-in_err-go_on-in-Err-clause-kept g c = λ d stood.
-    subst (λ (k : Contents). StandFor (g.V.Volume.stands (g.V.Volume.state c.idle.new.self).told) k d) (still_contents c.in-Err.error _ _ c.go_on.ensures.powered c.go_on.ensures.same)
-    ((one_call g.V.Volume.stands (Idles) (g.V.Volume.state c.args.volume.now) (g.V.Volume.state c.idle.new.self) _ _ _ d (g.met.V.Volume.write_owes_nothing c.args.volume.now _ c.requires.can.owns)
-    (g.met.V.Volume.write_owes_nothing c.idle.new.self _ c.idle.ensures.owns) c.requires.can.ack c.idle.ensures.goes.told c.in-Err.ensures.disk stood).kept refl)
-
-pub returns-in_ok-go_on-in-Err-clause-kept : goal.returns-in_ok-go_on-in-Err-clause-kept
-returns-in_ok-go_on-in-Err-clause-kept g c = λ d stood.
-    subst (λ (k : Contents). StandFor (g.V.Volume.stands (g.V.Volume.state c.idle.new.self).told) k d) (still_contents c.in-Err.error _ _ c.go_on.ensures.powered c.go_on.ensures.same)
-    ((one_call g.V.Volume.stands (Idles) (g.V.Volume.state c.args.volume.now) (g.V.Volume.state c.idle.new.self) _ _ _ d (g.met.V.Volume.write_owes_nothing c.args.volume.now _ c.requires.can.owns)
-    (g.met.V.Volume.write_owes_nothing c.idle.new.self _ c.idle.ensures.owns) c.requires.can.ack c.idle.ensures.goes.told c.in-Err.ensures.disk stood).kept refl)
-
-pub returns-in-Ok-clause-kept : goal.returns-in-Ok-clause-kept
-returns-in-Ok-clause-kept g c = λ d stood. (one_call g.V.Volume.stands (Idles) (g.V.Volume.state c.args.volume.now) (g.V.Volume.state c.idle.new.self) _ _ _ d
-    (g.met.V.Volume.write_owes_nothing c.args.volume.now _ c.requires.can.owns) (g.met.V.Volume.write_owes_nothing c.idle.new.self _ c.idle.ensures.owns)
-    c.requires.can.ack c.idle.ensures.goes.told c.in-Ok.ensures.disk stood).kept refl
-
 pub returns-in_err-go_on-in-Err-clause-spends : goal.returns-in_err-go_on-in-Err-clause-spends
 returns-in_err-go_on-in-Err-clause-spends g c =
     spends_ends (Rests ∷ []) _ _ _ _ c.from_residual.result _ c.from_residual.ensures.1
@@ -63,3 +48,38 @@ returns-in-Ok-clause-spends g c = record {
       c.in-Ok._idled quiet (g.met.V.Volume.can_be_loaded c.args.volume.now _ c.requires.can.owns) c.in-Ok.ensures.costs c.in-Ok.ensures.goes;
   ended = tt;
 }
+
+pub returns-in_err-go_on-in-Err-clause-kept : goal.returns-in_err-go_on-in-Err-clause-kept
+returns-in_err-go_on-in-Err-clause-kept g c = λ none d stood.
+    subst (λ (k : Contents). StandFor (g.V.Volume.stands (g.V.Volume.state c.idle.new.self).told) k d) (still_contents c.in-Err.error _ _ c.go_on.ensures.powered c.go_on.ensures.same)
+    (clear_kept (g.V.Volume.owes c.args.volume.now (g.R.Media.state c.args.rig.now).contents) (g.V.Volume.owes c.idle.new.self (g.R.Media.state c.idle.new.rig).contents) g.V.Volume.stands Idles (g.V.Volume.state c.args.volume.now) (g.V.Volume.state c.idle.new.self) (g.R.Media.state c.args.rig.now).contents (g.R.Media.state c.idle.new.rig).contents _ d refl none c.in-Err.ensures.disk stood)
+
+pub returns-in_ok-go_on-in-Err-clause-kept : goal.returns-in_ok-go_on-in-Err-clause-kept
+returns-in_ok-go_on-in-Err-clause-kept g c = λ none d stood.
+    subst (λ (k : Contents). StandFor (g.V.Volume.stands (g.V.Volume.state c.idle.new.self).told) k d) (still_contents c.in-Err.error _ _ c.go_on.ensures.powered c.go_on.ensures.same)
+    (clear_kept (g.V.Volume.owes c.args.volume.now (g.R.Media.state c.args.rig.now).contents) (g.V.Volume.owes c.idle.new.self (g.R.Media.state c.idle.new.rig).contents) g.V.Volume.stands Idles (g.V.Volume.state c.args.volume.now) (g.V.Volume.state c.idle.new.self) (g.R.Media.state c.args.rig.now).contents (g.R.Media.state c.idle.new.rig).contents _ d refl none c.in-Err.ensures.disk stood)
+
+pub returns-in-Ok-clause-kept : goal.returns-in-Ok-clause-kept
+returns-in-Ok-clause-kept g c = λ none d stood. clear_kept (g.V.Volume.owes c.args.volume.now (g.R.Media.state c.args.rig.now).contents) (g.V.Volume.owes c.idle.new.self (g.R.Media.state c.idle.new.rig).contents) g.V.Volume.stands Idles (g.V.Volume.state c.args.volume.now) (g.V.Volume.state c.idle.new.self) (g.R.Media.state c.args.rig.now).contents (g.R.Media.state c.idle.new.rig).contents _ d refl none c.in-Ok.ensures.disk stood
+
+pub returns-in_ok-go_on-in-Err-clause-clear : goal.returns-in_ok-go_on-in-Err-clause-clear
+returns-in_ok-go_on-in-Err-clause-clear g c = λ clear.
+    clear_lost (λ (k : ℕ). k) (g.V.Volume.owes c.args.volume.now (g.R.Media.state c.args.rig.now).contents) (g.V.Volume.owes c.idle.new.self) g.V.Volume.stands Idles (g.V.Volume.state c.args.volume.now) (g.V.Volume.state c.idle.new.self) (g.R.Media.state c.args.rig.now).contents (g.R.Media.state c.idle.new.rig).contents c.in-Err.error _ c.in_ok-go_on-in-Err.ensures.lost (still_contents c.in-Err.error _ _ c.go_on.ensures.powered c.go_on.ensures.same) refl
+    (λ left owed. g.met.V.Volume.down_owes_nothing c.idle.new.self _ left c.idle.ensures.owns (c.in-Err.ensures.goes.lost c.requires.can.on (ap Err c.in_ok-go_on-in-Err.ensures.lost)) owed) c.in-Err.ensures.disk clear
+
+pub returns-in-Ok-clause-clear : goal.returns-in-Ok-clause-clear
+returns-in-Ok-clause-clear g c = λ clear. clear_ok (λ (k : ℕ). k) (g.V.Volume.owes c.args.volume.now (g.R.Media.state c.args.rig.now).contents) (g.V.Volume.owes c.idle.new.self) g.V.Volume.stands Idles (g.V.Volume.state c.args.volume.now) (g.V.Volume.state c.idle.new.self) (g.R.Media.state c.args.rig.now).contents (g.R.Media.state c.idle.new.rig).contents _ refl c.in-Ok.ensures.disk clear
+
+pub returns-in_err-go_on-in-Err-clause-owing : goal.returns-in_err-go_on-in-Err-clause-owing
+returns-in_err-go_on-in-Err-clause-owing g c =
+    call_ends (λ (k : ℕ). k) (g.V.Volume.owes c.args.volume.now (g.R.Media.state c.args.rig.now).contents) (g.V.Volume.owes c.idle.new.self) g.V.Volume.stands Idles (g.V.Volume.state c.args.volume.now) (g.V.Volume.state c.idle.new.self) (g.R.Media.state c.args.rig.now).contents (g.R.Media.state c.idle.new.rig).contents c.from_residual.result _ c.in-Err.error _ c.from_residual.ensures.1
+    (still_contents c.in-Err.error _ _ c.go_on.ensures.powered c.go_on.ensures.same) c.in-Err.ensures.disk
+
+pub returns-in_ok-go_on-in-Err-clause-owing : goal.returns-in_ok-go_on-in-Err-clause-owing
+returns-in_ok-go_on-in-Err-clause-owing g c =
+    call_lost (λ (k : ℕ). k) (g.V.Volume.owes c.args.volume.now (g.R.Media.state c.args.rig.now).contents) (g.V.Volume.owes c.idle.new.self) g.V.Volume.stands Idles (g.V.Volume.state c.args.volume.now) (g.V.Volume.state c.idle.new.self) (g.R.Media.state c.args.rig.now).contents (g.R.Media.state c.idle.new.rig).contents 1 c.in-Err.error _ c.in_ok-go_on-in-Err.ensures.lost (still_contents c.in-Err.error _ _ c.go_on.ensures.powered c.go_on.ensures.same) (omega arith)
+    (g.met.V.Volume.owes_some c.args.volume.now _ c.requires.can.owns)
+    (λ left owed. g.met.V.Volume.down_owes_nothing c.idle.new.self _ left c.idle.ensures.owns (c.in-Err.ensures.goes.lost c.requires.can.on (ap Err c.in_ok-go_on-in-Err.ensures.lost)) owed) c.in-Err.ensures.disk
+
+pub returns-in-Ok-clause-owing : goal.returns-in-Ok-clause-owing
+returns-in-Ok-clause-owing g c = call_ok (λ (k : ℕ). k) (g.V.Volume.owes c.args.volume.now (g.R.Media.state c.args.rig.now).contents) (g.V.Volume.owes c.idle.new.self) g.V.Volume.stands Idles (g.V.Volume.state c.args.volume.now) (g.V.Volume.state c.idle.new.self) (g.R.Media.state c.args.rig.now).contents (g.R.Media.state c.idle.new.rig).contents _ 0 refl c.in-Ok.ensures.disk

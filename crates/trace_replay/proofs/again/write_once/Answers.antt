@@ -1,8 +1,9 @@
-use Rattle.std.proofs.Common.{◌∷◌, [], Err, ap, subst, arith}
+use Rattle.std.proofs.Common.{◌∷◌, [], Err, ap, subst, arith, true, false, refl}
 use Rattle.ft_base.specs.Contents.{Contents, set}
 use Rattle.ft_volume.specs.Volume.{StandForEither, StandForOne}
 use Rattle.ft_volume.specs.Volume.Call.{Writes}
 use Rattle.trace_replay.specs.Went.{cut_if}
+use Rattle.trace_replay.proofs.OwingLemmas.{call_ends, call_lost, call_ok}
 use Rattle.trace_replay.proofs.CallLemmas.{one_call, still_contents, was_call}
 use Rattle.trace_replay.proofs.WentLemmas.{refused, went_call, went_ends}
 use Rattle.trace_replay.proofs.SpendsLemmas.{call_most, call_never_lost, call_spent, spends_ends}
@@ -19,35 +20,35 @@ returns-in_err-go_on-in-Err-clause-went g c =
     went_ends g.P.Script.state g.P.Script.came g.P.Script.broke g.P.Script.knows cut_if 1 _ _ _ _ c.from_residual.result _ c.from_residual.ensures.1 went.0 went.1.0
 
 pub returns-in_err-go_on-in-Err-clause-images : goal.returns-in_err-go_on-in-Err-clause-images
-returns-in_err-go_on-in-Err-clause-images g c = λ d stood.
+returns-in_err-go_on-in-Err-clause-images g c = λ at_write d stood.
     subst (λ (k : Contents). StandForEither (g.V.Volume.stands (g.V.Volume.state c.write.new.self).told) k d (set d c.args.lba c.args.block.now)) (still_contents c.in-Err.error _ _ c.go_on.ensures.powered c.go_on.ensures.same)
     (one_call g.V.Volume.stands (Writes c.args.lba c.args.block.now) (g.V.Volume.state c.args.volume.now) (g.V.Volume.state c.write.new.self) _ _ _ d
-    (g.met.V.Volume.write_owes_nothing c.args.volume.now _ c.requires.can.owns) (g.met.V.Volume.write_owes_nothing c.write.new.self _ c.write.ensures.owns)
-    c.requires.can.ack c.write.ensures.goes.told c.in-Err.ensures.disk stood).images
+    (g.met.V.Volume.owes_some c.args.volume.now _ c.requires.can.owns) (λ owed. g.met.V.Volume.write_owes_nothing c.args.volume.now _ owed c.requires.can.owns) (λ owed. g.met.V.Volume.write_owes_nothing c.write.new.self _ owed c.write.ensures.owns)
+    at_write c.write.ensures.goes.told c.in-Err.ensures.disk stood).images
 
 pub returns-in_ok-go_on-in-Err-clause-images : goal.returns-in_ok-go_on-in-Err-clause-images
-returns-in_ok-go_on-in-Err-clause-images g c = λ d stood.
+returns-in_ok-go_on-in-Err-clause-images g c = λ at_write d stood.
     subst (λ (k : Contents). StandForEither (g.V.Volume.stands (g.V.Volume.state c.write.new.self).told) k d (set d c.args.lba c.args.block.now)) (still_contents c.in-Err.error _ _ c.go_on.ensures.powered c.go_on.ensures.same)
     (one_call g.V.Volume.stands (Writes c.args.lba c.args.block.now) (g.V.Volume.state c.args.volume.now) (g.V.Volume.state c.write.new.self) _ _ _ d
-    (g.met.V.Volume.write_owes_nothing c.args.volume.now _ c.requires.can.owns) (g.met.V.Volume.write_owes_nothing c.write.new.self _ c.write.ensures.owns)
-    c.requires.can.ack c.write.ensures.goes.told c.in-Err.ensures.disk stood).images
+    (g.met.V.Volume.owes_some c.args.volume.now _ c.requires.can.owns) (λ owed. g.met.V.Volume.write_owes_nothing c.args.volume.now _ owed c.requires.can.owns) (λ owed. g.met.V.Volume.write_owes_nothing c.write.new.self _ owed c.write.ensures.owns)
+    at_write c.write.ensures.goes.told c.in-Err.ensures.disk stood).images
 
 pub returns-in_ok-go_on-in-Err-clause-one : goal.returns-in_ok-go_on-in-Err-clause-one
-returns-in_ok-go_on-in-Err-clause-one g c = λ _ d stood.
+returns-in_ok-go_on-in-Err-clause-one g c = λ at_write _ d stood.
     subst (λ (k : Contents). StandForOne (g.V.Volume.stands (g.V.Volume.state c.write.new.self).told) k d (set d c.args.lba c.args.block.now)) (still_contents c.in-Err.error _ _ c.go_on.ensures.powered c.go_on.ensures.same)
     ((one_call g.V.Volume.stands (Writes c.args.lba c.args.block.now) (g.V.Volume.state c.args.volume.now) (g.V.Volume.state c.write.new.self) _ _ _ d
-    (g.met.V.Volume.write_owes_nothing c.args.volume.now _ c.requires.can.owns) (g.met.V.Volume.write_owes_nothing c.write.new.self _ c.write.ensures.owns)
-    c.requires.can.ack c.write.ensures.goes.told c.in-Err.ensures.disk stood).one (ap Err c.in_ok-go_on-in-Err.ensures.lost))
+    (g.met.V.Volume.owes_some c.args.volume.now _ c.requires.can.owns) (λ owed. g.met.V.Volume.write_owes_nothing c.args.volume.now _ owed c.requires.can.owns) (λ owed. g.met.V.Volume.write_owes_nothing c.write.new.self _ owed c.write.ensures.owns)
+    at_write c.write.ensures.goes.told c.in-Err.ensures.disk stood).one (ap Err c.in_ok-go_on-in-Err.ensures.lost))
 
 pub returns-in-Ok-clause-done : goal.returns-in-Ok-clause-done
-returns-in-Ok-clause-done g c = λ _ d stood. (one_call g.V.Volume.stands (Writes c.args.lba c.args.block.now) (g.V.Volume.state c.args.volume.now) (g.V.Volume.state c.write.new.self) _ _ _ d
-    (g.met.V.Volume.write_owes_nothing c.args.volume.now _ c.requires.can.owns) (g.met.V.Volume.write_owes_nothing c.write.new.self _ c.write.ensures.owns)
-    c.requires.can.ack c.write.ensures.goes.told c.in-Ok.ensures.disk stood).done
+returns-in-Ok-clause-done g c = λ at_write _ d stood. (one_call g.V.Volume.stands (Writes c.args.lba c.args.block.now) (g.V.Volume.state c.args.volume.now) (g.V.Volume.state c.write.new.self) _ _ _ d
+    (g.met.V.Volume.owes_some c.args.volume.now _ c.requires.can.owns) (λ owed. g.met.V.Volume.write_owes_nothing c.args.volume.now _ owed c.requires.can.owns) (λ owed. g.met.V.Volume.write_owes_nothing c.write.new.self _ owed c.write.ensures.owns)
+    at_write c.write.ensures.goes.told c.in-Ok.ensures.disk stood).done
 
 pub returns-in-Ok-clause-images : goal.returns-in-Ok-clause-images
-returns-in-Ok-clause-images g c = λ d stood. (one_call g.V.Volume.stands (Writes c.args.lba c.args.block.now) (g.V.Volume.state c.args.volume.now) (g.V.Volume.state c.write.new.self) _ _ _ d
-    (g.met.V.Volume.write_owes_nothing c.args.volume.now _ c.requires.can.owns) (g.met.V.Volume.write_owes_nothing c.write.new.self _ c.write.ensures.owns)
-    c.requires.can.ack c.write.ensures.goes.told c.in-Ok.ensures.disk stood).images
+returns-in-Ok-clause-images g c = λ at_write d stood. (one_call g.V.Volume.stands (Writes c.args.lba c.args.block.now) (g.V.Volume.state c.args.volume.now) (g.V.Volume.state c.write.new.self) _ _ _ d
+    (g.met.V.Volume.owes_some c.args.volume.now _ c.requires.can.owns) (λ owed. g.met.V.Volume.write_owes_nothing c.args.volume.now _ owed c.requires.can.owns) (λ owed. g.met.V.Volume.write_owes_nothing c.write.new.self _ owed c.write.ensures.owns)
+    at_write c.write.ensures.goes.told c.in-Ok.ensures.disk stood).images
 
 pub returns-in_err-go_on-in-Err-clause-spends : goal.returns-in_err-go_on-in-Err-clause-spends
 returns-in_err-go_on-in-Err-clause-spends g c =
@@ -68,3 +69,17 @@ returns-in-Ok-clause-spends g c = record {
       (g.R.Media.state c.write.new.rig) tt quiet (g.met.V.Volume.can_be_loaded c.args.volume.now _ c.requires.can.owns) c.in-Ok.ensures.costs c.in-Ok.ensures.goes;
   ended = tt;
 }
+
+pub returns-in_err-go_on-in-Err-clause-owing : goal.returns-in_err-go_on-in-Err-clause-owing
+returns-in_err-go_on-in-Err-clause-owing g c =
+    call_ends cut_if (g.V.Volume.owes c.args.volume.now (g.R.Media.state c.args.rig.now).contents) (g.V.Volume.owes c.write.new.self) g.V.Volume.stands (Writes c.args.lba c.args.block.now) (g.V.Volume.state c.args.volume.now) (g.V.Volume.state c.write.new.self) (g.R.Media.state c.args.rig.now).contents (g.R.Media.state c.write.new.rig).contents c.from_residual.result _ c.in-Err.error _ c.from_residual.ensures.1
+    (still_contents c.in-Err.error _ _ c.go_on.ensures.powered c.go_on.ensures.same) c.in-Err.ensures.disk
+
+pub returns-in_ok-go_on-in-Err-clause-owing : goal.returns-in_ok-go_on-in-Err-clause-owing
+returns-in_ok-go_on-in-Err-clause-owing g c =
+    call_lost cut_if (g.V.Volume.owes c.args.volume.now (g.R.Media.state c.args.rig.now).contents) (g.V.Volume.owes c.write.new.self) g.V.Volume.stands (Writes c.args.lba c.args.block.now) (g.V.Volume.state c.args.volume.now) (g.V.Volume.state c.write.new.self) (g.R.Media.state c.args.rig.now).contents (g.R.Media.state c.write.new.rig).contents true c.in-Err.error _ c.in_ok-go_on-in-Err.ensures.lost (still_contents c.in-Err.error _ _ c.go_on.ensures.powered c.go_on.ensures.same) (omega arith)
+    (g.met.V.Volume.owes_some c.args.volume.now _ c.requires.can.owns)
+    (λ left owed. g.met.V.Volume.down_owes_nothing c.write.new.self _ left c.write.ensures.owns (c.in-Err.ensures.goes.lost c.requires.can.on (ap Err c.in_ok-go_on-in-Err.ensures.lost)) owed) c.in-Err.ensures.disk
+
+pub returns-in-Ok-clause-owing : goal.returns-in-Ok-clause-owing
+returns-in-Ok-clause-owing g c = call_ok cut_if (g.V.Volume.owes c.args.volume.now (g.R.Media.state c.args.rig.now).contents) (g.V.Volume.owes c.write.new.self) g.V.Volume.stands (Writes c.args.lba c.args.block.now) (g.V.Volume.state c.args.volume.now) (g.V.Volume.state c.write.new.self) (g.R.Media.state c.args.rig.now).contents (g.R.Media.state c.write.new.rig).contents tt false refl c.in-Ok.ensures.disk

@@ -8,7 +8,7 @@ use Rattle.write_back.proofs.cleaning.clean_blocks.Goals as goal
 
 pub loop-lba-init : goal.loop-lba-init
 loop-lba-init g c = record {
-  proceeds = proceeds_none c.args.disk.now (g.M.Media.state c.args.media.now) c.requires.may.up c.requires.may.left;
+  proceeds = proceeds_none c.args.disk.now (g.M.Media.state c.args.media.now) c.requires.may.up c.requires.may.left c.requires.settled;
   flushed = c.requires.flushed;
   copied = c.requires.copied;
   cleaned = λ a. none_cleaned (is_among (dirty_of c.args.disk.now) a);
@@ -22,6 +22,7 @@ clean_block-requires g c =
     let here : is_among c.args.lbas.now lba ≡ true = among_here c.args.lbas.now c.loop-lba.lba-index c.loop-lba-test.true in
     record {
       may = record { left = is.proceeds.left; up = (is.proceeds.goes [] []).up };
+      settled = is.proceeds.settled (is.proceeds.goes [] []).up;
       back = is.proceeds.made.1 ∙ c.requires.back;
       lba = subst (λ (o : Options). lba < o.geometry.size) (sym is.proceeds.made.0) (c.requires.lbas lba here);
       flushed = is.flushed;

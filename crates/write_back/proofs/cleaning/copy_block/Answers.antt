@@ -21,7 +21,7 @@ read-requires-clause-lba g c =
 
 pub returns-in-Err-clause-proceeds : goal.returns-in-Err-clause-proceeds
 returns-in-Err-clause-proceeds g c = copy_unread c.args.disk.now c.read.new.self c.read.ensures.same (g.M.Media.state c.args.media.now) (g.M.Media.state c.read.new.media)
-    c.requires.may.left c.requires.may.up c.in-Err.error c.cache_error.result c.cache_error.ensures (λ is. c.in-Err.ensures.memory (ap Err is)) c.in-Err.ensures.reads
+    c.requires.may.left c.requires.may.up c.requires.settled c.in-Err.error c.cache_error.result c.cache_error.ensures (λ is. c.in-Err.ensures.memory (ap Err is)) c.in-Err.ensures.reads
 
 pub write_block-requires : goal.write_block-requires
 write_block-requires g c =
@@ -33,7 +33,7 @@ write_block-requires g c =
 pub returns-in-Ok-clause-proceeds : goal.returns-in-Ok-clause-proceeds
 returns-in-Ok-clause-proceeds g c =
     let e = c.in-Ok.ensures in
-    copy_done c.args.disk.now c.read.new.self c.read.ensures.same (g.M.Media.state c.args.media.now) (g.M.Media.state c.read.new.media) c.requires.may.left c.requires.may.up c.in_default.ensures.reads
+    copy_done c.args.disk.now c.read.new.self c.read.ensures.same (g.M.Media.state c.args.media.now) (g.M.Media.state c.read.new.media) c.requires.may.left c.requires.may.up c.requires.settled c.in_default.ensures.reads
     (g.M.Media.state c.write_block.new.self) c.args.lba c.requires.dirty c.in_default.field-0 c.read.new.block c.in_default.ensures.found e.values e.ok
     (record { flash = e.flash; cause = e.cause; device = e.device; passes = e.passes }) e.counts
 
@@ -49,20 +49,20 @@ returns-in-OutOfMemory-clause-flushes g c = ap (λ (s : State). s.counts.disk_fl
 pub returns-in-Ok-clause-copied : goal.returns-in-Ok-clause-copied
 returns-in-Ok-clause-copied g c =
     let e = c.in-Ok.ensures in
-    copied_here c.args.disk.now c.read.new.self c.read.ensures.same (g.M.Media.state c.args.media.now) (g.M.Media.state c.read.new.media) c.requires.may.left c.requires.may.up c.in_default.ensures.reads
+    copied_here c.args.disk.now c.read.new.self c.read.ensures.same (g.M.Media.state c.args.media.now) (g.M.Media.state c.read.new.media) c.requires.may.left c.requires.may.up c.requires.settled c.in_default.ensures.reads
     (g.M.Media.state c.write_block.new.self) c.args.lba c.requires.dirty c.in_default.field-0 c.read.new.block c.in_default.ensures.found e.values e.ok
     (record { flash = e.flash; cause = e.cause; device = e.device; passes = e.passes })
 
 pub returns-in-Ok-clause-others : goal.returns-in-Ok-clause-others
 returns-in-Ok-clause-others g c =
     let e = c.in-Ok.ensures in
-    copied_others c.args.disk.now c.read.new.self c.read.ensures.same (g.M.Media.state c.args.media.now) (g.M.Media.state c.read.new.media) c.requires.may.left c.requires.may.up c.in_default.ensures.reads
+    copied_others c.args.disk.now c.read.new.self c.read.ensures.same (g.M.Media.state c.args.media.now) (g.M.Media.state c.read.new.media) c.requires.may.left c.requires.may.up c.requires.settled c.in_default.ensures.reads
     (g.M.Media.state c.write_block.new.self) c.args.lba c.requires.dirty c.in_default.field-0 c.read.new.block c.in_default.ensures.found e.values e.ok
     (record { flash = e.flash; cause = e.cause; device = e.device; passes = e.passes })
 
 pub returns-in-OutOfMemory-clause-proceeds : goal.returns-in-OutOfMemory-clause-proceeds
 returns-in-OutOfMemory-clause-proceeds g c = copy_lacks c.args.disk.now c.read.new.self c.read.ensures.same (g.M.Media.state c.args.media.now) (g.M.Media.state c.read.new.media)
-    c.requires.may.left c.requires.may.up c.in_default.ensures.reads (g.M.Media.state c.write_block.new.self) (c.write_block.ensures.memory (c.in-Err-write_block.is ∙ ap Err c.in-OutOfMemory.is))
+    c.requires.may.left c.requires.may.up c.requires.settled c.in_default.ensures.reads (g.M.Media.state c.write_block.new.self) (c.write_block.ensures.memory (c.in-Err-write_block.is ∙ ap Err c.in-OutOfMemory.is))
 
 pub returns-in_default-error : goal.returns-in_default-error
 returns-in_default-error g c =
@@ -70,7 +70,7 @@ returns-in_default-error g c =
     record {
       proceeds = subst (λ (r : VolumeError). Proceeds 1 c.args.disk.now (record c.args.disk.now { cache = c.read.new.self; down = true }) (g.M.Media.state c.args.media.now) (g.M.Media.state c.write_block.new.self) (Err r)) (sym c.disk_error.ensures)
           (copy_unwritten c.args.disk.now c.read.new.self c.read.ensures.same (g.M.Media.state c.args.media.now) (g.M.Media.state c.read.new.media)
-          c.requires.may.left c.requires.may.up c.in_default.ensures.reads (g.M.Media.state c.write_block.new.self)
+          c.requires.may.left c.requires.may.up c.requires.settled c.in_default.ensures.reads (g.M.Media.state c.write_block.new.self)
           c.args.lba c.requires.dirty c.in_default.field-0 c.read.new.block c.in_default.ensures.found e.values c.in-Err-write_block.error c.in_default-error.not-OutOfMemory
           (record { flash = e.flash; cause = e.cause; device = e.device; passes = e.passes }) e.counts);
       same = ap (λ (k : Ssc). record c.args.disk.now { cache = k; down = true }) c.read.ensures.same;

@@ -8,7 +8,7 @@ use Rattle.write_back.proofs.cleaning.copy_blocks.Goals as goal
 
 pub loop-lba-init : goal.loop-lba-init
 loop-lba-init g c = record {
-  proceeds = proceeds_none c.args.disk.now (g.M.Media.state c.args.media.now) c.requires.may.up c.requires.may.left;
+  proceeds = proceeds_none c.args.disk.now (g.M.Media.state c.args.media.now) c.requires.may.up c.requires.may.left c.requires.settled;
   same = refl;
   copied = λ a among. absurd (cc);
   flushes = refl;
@@ -20,6 +20,7 @@ copy_block-requires g c =
     let lba : ℕ = get_or c.args.lbas.now c.loop-lba.lba-index 0 in
     record {
       may = record { left = is.proceeds.left; up = (is.proceeds.goes [] []).up };
+      settled = is.proceeds.settled (is.proceeds.goes [] []).up;
       dirty = subst (λ (w : CachedDisk). is_among (dirty_of w) lba ≡ true) (sym is.same) (c.requires.dirty lba (among_here c.args.lbas.now c.loop-lba.lba-index c.loop-lba-test.true));
     }
 

@@ -9,7 +9,7 @@ use Rattle.write_back.proofs.cleaning.flush_copies.Goals as goal
 pub returns-in-Ok-clause-proceeds : goal.returns-in-Ok-clause-proceeds
 returns-in-Ok-clause-proceeds g c =
     let e = c.in-Ok.ensures in
-    flush_done c.args.disk.now (g.M.Media.state c.args.media.now) (g.M.Media.state c.flush_disk.new.self) c.requires.may.left c.requires.may.up e.values (record { flash = e.flash; cause = e.cause; device = e.device; passes = e.passes }) e.ok e.counts
+    flush_done c.args.disk.now (g.M.Media.state c.args.media.now) (g.M.Media.state c.flush_disk.new.self) c.requires.may.left c.requires.may.up c.requires.settled e.values (record { flash = e.flash; cause = e.cause; device = e.device; passes = e.passes }) e.ok e.counts
 
 pub returns-in-Ok-clause-flushes : goal.returns-in-Ok-clause-flushes
 returns-in-Ok-clause-flushes g c = let one : (g.M.Media.state c.flush_disk.new.self).counts.disk_flushes ≡ bumped (g.M.Media.state c.args.media.now).counts.disk_flushes = ap (λ (x : Counts). x.disk_flushes) c.in-Ok.ensures.counts in omega (arith, one)
@@ -20,15 +20,15 @@ returns-in-Err-clause-flushes g c = let same = ap (λ (x : Counts). x.disk_flush
 pub returns-in-Ok-clause-flushed : goal.returns-in-Ok-clause-flushed
 returns-in-Ok-clause-flushed g c =
     let e = c.in-Ok.ensures in
-    flush_settles c.args.disk.now (g.M.Media.state c.args.media.now) (g.M.Media.state c.flush_disk.new.self) c.requires.may.left c.requires.may.up e.values (record { flash = e.flash; cause = e.cause; device = e.device; passes = e.passes }) e.ok
+    flush_settles c.args.disk.now (g.M.Media.state c.args.media.now) (g.M.Media.state c.flush_disk.new.self) c.requires.may.left c.requires.may.up c.requires.settled e.values (record { flash = e.flash; cause = e.cause; device = e.device; passes = e.passes }) e.ok
 
 pub returns-in-Ok-clause-copied : goal.returns-in-Ok-clause-copied
 returns-in-Ok-clause-copied g c =
     let e = c.in-Ok.ensures in
-    flush_on_disk c.args.disk.now (g.M.Media.state c.args.media.now) (g.M.Media.state c.flush_disk.new.self) c.requires.may.left c.requires.may.up e.values (record { flash = e.flash; cause = e.cause; device = e.device; passes = e.passes }) e.ok
+    flush_on_disk c.args.disk.now (g.M.Media.state c.args.media.now) (g.M.Media.state c.flush_disk.new.self) c.requires.may.left c.requires.may.up c.requires.settled e.values (record { flash = e.flash; cause = e.cause; device = e.device; passes = e.passes }) e.ok
 
 pub returns-in-Err-clause-proceeds : goal.returns-in-Err-clause-proceeds
 returns-in-Err-clause-proceeds g c =
     let e = c.in-Err.ensures in
     subst (λ (r : VolumeError). Proceeds 0 c.args.disk.now (record c.args.disk.now { down = true }) (g.M.Media.state c.args.media.now) (g.M.Media.state c.flush_disk.new.self) (Err r)) (sym c.disk_error.ensures)
-    (flush_refused c.args.disk.now (g.M.Media.state c.args.media.now) (g.M.Media.state c.flush_disk.new.self) c.requires.may.left c.requires.may.up e.values c.in-Err.error (λ is. e.memory (ap Err is)) (record { flash = e.flash; cause = e.cause; device = e.device; passes = e.passes }) e.counts)
+    (flush_refused c.args.disk.now (g.M.Media.state c.args.media.now) (g.M.Media.state c.flush_disk.new.self) c.requires.may.left c.requires.may.up c.requires.settled e.values c.in-Err.error (λ is. e.memory (ap Err is)) (record { flash = e.flash; cause = e.cause; device = e.device; passes = e.passes }) e.counts)

@@ -1,4 +1,4 @@
-use Rattle.std.proofs.Common.{List, ℕ, ap, subst}
+use Rattle.std.proofs.Common.{List, ℕ, subst}
 use Rattle.std.proofs.lemmas.Result.{IfOk-weaker}
 use Rattle.write_back.specs.Tables.{IsTableOf}
 use Rattle.write_back.proofs.VolumeLemmas.{ascends, few, listed}

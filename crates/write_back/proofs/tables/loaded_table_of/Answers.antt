@@ -1,4 +1,4 @@
-use Rattle.std.proofs.Common.{List, ℕ, ◌∙◌, arith, subst}
+use Rattle.std.proofs.Common.{List, ℕ, arith, subst}
 use Rattle.std.proofs.lemmas.Result.{IfOk-weaker}
 use Rattle.write_back.specs.Tables.{IsTableOf}
 use Rattle.write_back.proofs.VolumeLemmas.{loaded_ascends, loaded_few, loaded_listed, loaded_size}

@@ -1,10 +1,14 @@
-use Rattle.std.proofs.Common.{◌≡◌, refl, rules, sym, subst, false, true, ap, arith}
+use Rattle.std.proofs.Common.{◌≡◌, List, refl, rules, sym, subst, false, true, ap, arith}
 use Rattle.std.proofs.lemmas.Bool.{both_ways}
 use Rattle.ft_base.specs.Contents.{Shape}
 use Rattle.ft_volume.specs.Volume.{opening_flushes}
 use Rattle.op_log.specs.Log.{FitsOn}
 use Rattle.cached_disk.specs.declared.disk.CachedDisk.{CachedDisk}
-use Rattle.cached_disk.specs.Kept.{is_down, told_of}
+use Rattle.cached_disk.specs.Kept.{Owes, is_down, told_of}
+use Rattle.std.specs.List.{list_any}
+use Rattle.ft_base.specs.PlainDisk.{BlockWrite}
+use Rattle.cache_model.specs.Cache.{is_write}
+use Rattle.cached_disk.proofs.ReadLemmas.{down_owes, owes_down, owes_none}
 use Rattle.cached_disk.proofs.DiskLemmas.{one_left}
 use Rattle.cached_disk.proofs.HeldLemmas.{one_held}
 use Rattle.cached_disk.proofs.OpenedLemmas.{alone_now, opened_entries, opened_left, refused_fixed, refused_left}
@@ -29,6 +33,24 @@ returns-then-not-is_down-clause-reopens g c =
       cause = search rules;
       passes = search rules;
     }
+
+pub returns-in-Ok-clause-owes : goal.returns-in-Ok-clause-owes
+returns-in-Ok-clause-owes g c = λ owed owes.
+    let v = c.args.self.now in
+    let old = (g.M.Media.state c.args.media.now).contents in
+    let new = (g.M.Media.state c.open_cache.new.media).contents in
+    let w : CachedDisk = record v { cache = c.in-Ok.cache; down = false } in
+    let down : is_down v ≡ true = search rules in
+    let left = opened_left w old new c.requires.list c.in-Ok.ensures.opened c.in-Ok.ensures.opening.opens c.requires.beneath.flash c.requires.beneath.agrees c.requires.beneath.suits
+    (subst (λ (x : Shape). FitsOn v.options.geometry x) (sym c.in-Ok.ensures.opening.goes.passes.shape) c.requires.shape) in
+    subst (λ (ws : List BlockWrite). Owes w new ws) (sym (down_owes v old owed down owes)) (owes_none w new (ap (list_any is_write) c.in-Ok.ensures.opened.nothing_waits) left)
+
+pub returns-in-Err-clause-owes : goal.returns-in-Err-clause-owes
+returns-in-Err-clause-owes g c = λ owed owes.
+    let v = c.args.self.now in
+    let down : is_down v ≡ true = search rules in
+    let new = (g.M.Media.state c.open_cache.new.media).contents in
+    subst (λ (ws : List BlockWrite). Owes v new ws) (sym (down_owes v (g.M.Media.state c.args.media.now).contents owed down owes)) (owes_down v new down)
 
 pub returns-in-Ok-clause-left : goal.returns-in-Ok-clause-left
 returns-in-Ok-clause-left g c =

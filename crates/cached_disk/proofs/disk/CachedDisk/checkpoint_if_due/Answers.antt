@@ -1,3 +1,5 @@
+use Rattle.std.specs.List.{list_any}
+use Rattle.cache_model.specs.Cache.{is_write}
 use Rattle.std.proofs.Common.{◌≡◌, Ok, Err, ◌-◌, ◌*◌, ◌<◌, ◌≤◌, ◌^◌, length, refl, rules, sym, ◌∙◌, ap, arith}
 use Rattle.std.proofs.lemmas.List.{length-map}
 use Rattle.ft_base.proofs.Images.{newest_image, with_newest}
@@ -12,11 +14,11 @@ use Rattle.ssc.specs.Errors.{ssc_failed, ssc_lost}
 use Rattle.cached_disk.specs.declared.disk.CachedDisk.{CachedDisk}
 use Rattle.cached_disk.specs.Kept.{dirty_of, state_in, told_of, waiting_in}
 use Rattle.cached_disk.proofs.AddressLemmas.{holds_held}
-use Rattle.cached_disk.proofs.CallLemmas.{answered_same, asks_none, gives_up, goes_down, goes_driven, idle_same, none_up, refused_costs, refused_same, same_costs}
+use Rattle.cached_disk.proofs.CallLemmas.{asks_none, gives_up, goes_down, goes_driven, idle_same, none_up, refused_costs, same_costs}
 use Rattle.cached_disk.proofs.HeldLemmas.{is_up, stopped_down}
 use Rattle.cached_disk.proofs.OpenLemmas.{less_none}
 use Rattle.cached_disk.proofs.ReportLemmas.{goes_at}
-use Rattle.cached_disk.proofs.ReadLemmas.{commit_shows, done_dirty, done_left, done_stands, drove_held, due, may_none, not_due, refused_left, refused_stands, room_fits, shows_itself, still_up}
+use Rattle.cached_disk.proofs.ReadLemmas.{commit_shows, done_dirty, done_left, drove_held, due, may_none, not_due, refused_left, refused_stays, room_fits, settled_stays, shows_itself, stays_same, still_up}
 use Rattle.cached_disk.proofs.disk.CachedDisk.checkpoint_if_due.Goals as goal
 
 pub overflow_mul-log_room : goal.overflow_mul-log_room
@@ -50,9 +52,9 @@ returns-in-Ok-clause-serves g c =
     let by = drove_held v c.checkpoint.new.self (g.M.Media.state c.args.media.now) (g.M.Media.state c.checkpoint.new.media) (ssc_failed c.checkpoint.result) (ssc_lost c.checkpoint.result) c.requires.may.left c.requires.may.up c.checkpoint.ensures.runs.geometry c.checkpoint.ensures.runs.drives in
     let w : CachedDisk = record v { cache = c.checkpoint.new.self } in
     record {
-      left = done_left v c.checkpoint.new.self old new s by s (shows_itself v old s is) (c.in-Ok.ensures.done s is.holds) (λ a dirty. dirty) (may_none (told_of v) (pending c.checkpoint.new.self) c.in-Ok.ensures.nothing_waits);
-      was = λ order base stand. answered_same Idles (state_in order v) (state_in order w) new base refl refl
-          (done_stands v c.checkpoint.new.self old new s by s (shows_itself v old s is) (c.in-Ok.ensures.done s is.holds) (λ a dirty. dirty) (may_none (told_of v) (pending c.checkpoint.new.self) c.in-Ok.ensures.nothing_waits) base stand) Checkpointed refl tt;
+      left = done_left v c.checkpoint.new.self old new s by s (shows_itself v old s is) (c.in-Ok.ensures.done s is.holds) (λ a dirty. dirty) (may_none (told_of v) (pending c.checkpoint.new.self) c.in-Ok.ensures.nothing_waits) (ap (list_any is_write) c.in-Ok.ensures.nothing_waits);
+      keeps = settled_stays v c.checkpoint.new.self (g.M.Media.state c.args.media.now) (g.M.Media.state c.checkpoint.new.media) (ssc_failed c.checkpoint.result) (ssc_lost c.checkpoint.result) c.requires.may.left c.requires.may.up c.checkpoint.ensures.runs.geometry c.checkpoint.ensures.runs.drives c.in-Ok.ensures.done c.in-Ok.ensures.nothing_waits;
+      found = λ owed owes base stand. tt;
       goes = λ order. goes_driven Checkpointed (g.M.Media.state c.args.media.now) (g.M.Media.state c.checkpoint.new.media) (state_in order v) (state_in order w) refl
           (still_up v c.checkpoint.new.self c.requires.may.up c.in-Ok.ensures.runs.stopped) c.in-Ok.ensures.runs.drives;
       dirty = λ still. done_dirty v c.checkpoint.new.self old new s by s (shows_itself v old s is) (c.in-Ok.ensures.done s is.holds) (λ a dirty. dirty) (λ a dirty. dirty);
@@ -75,10 +77,24 @@ returns-in-Ok-clause-costs g c = λ order none.
     (ap (waiting_in v.options.geometry.p order) (done_dirty v c.checkpoint.new.self old new s by s (shows_itself v old s is) holds (λ a dirty. dirty) (λ a dirty. dirty)) ∙ sym idle.0)
     (λ a. holds_held c.checkpoint.new.self new s holds a ∙ sym (holds_held v.cache old s is.holds a)) c.checkpoint.ensures.runs.drives.disk_reads c.checkpoint.ensures.runs.drives.disk_writes
 
+pub returns-then-log_room-j-clause-serves : goal.returns-then-log_room-j-clause-serves
+returns-then-log_room-j-clause-serves g c =
+    let v = c.args.self.now in
+    let old = (g.M.Media.state c.args.media.now).contents in
+    record {
+      left = c.requires.may.left;
+      keeps = stays_same v v old old refl refl;
+      found = λ owed owes base stand. tt;
+      goes = search rules;
+      dirty = search rules;
+      made = search rules;
+      within = search rules;
+    }
+
 pub returns-then-log_room-j-clause-asks : goal.returns-then-log_room-j-clause-asks
 returns-then-log_room-j-clause-asks g c = λ order.
     let v = c.args.self.now in
-    asks_none Idles (state_in order v) (state_in order v) (g.M.Media.state c.args.media.now) (g.M.Media.state c.args.media.now) (Ok Nothing) (λ none. none) (λ none. none) (omega arith)
+    asks_none Idles (state_in order v) (state_in order v) (g.M.Media.state c.args.media.now) (g.M.Media.state c.args.media.now) (Ok Nothing) (λ none. none) (λ finds none. none) (omega arith)
 
 pub returns-then-log_room-j-clause-checkpoint : goal.returns-then-log_room-j-clause-checkpoint
 returns-then-log_room-j-clause-checkpoint g c = λ order is. absurd (cc)
@@ -88,7 +104,7 @@ returns-in-Ok-clause-asks g c = λ order.
     let v = c.args.self.now in
     let w : CachedDisk = record v { cache = c.checkpoint.new.self } in
     let same = c.checkpoint.ensures.runs.drives.disk_flushes in
-    asks_none Idles (state_in order v) (state_in order w) (g.M.Media.state c.args.media.now) (g.M.Media.state c.checkpoint.new.media) (Ok Checkpointed) (λ none. none) (λ none. none) (omega (arith, same))
+    asks_none Idles (state_in order v) (state_in order w) (g.M.Media.state c.args.media.now) (g.M.Media.state c.checkpoint.new.media) (Ok Checkpointed) (λ none. none) (λ finds none. none) (omega (arith, same))
 
 pub returns-in-Ok-clause-checkpoint : goal.returns-in-Ok-clause-checkpoint
 returns-in-Ok-clause-checkpoint g c = λ order is.
@@ -114,7 +130,7 @@ returns-in-Err-clause-asks g c = λ order.
     let v = c.args.self.now in
     let w : CachedDisk = record v { cache = c.checkpoint.new.self } in
     let same = c.checkpoint.ensures.runs.drives.disk_flushes in
-    asks_none Idles (state_in order v) (state_in order w) (g.M.Media.state c.args.media.now) (g.M.Media.state c.checkpoint.new.media) (Err c.cache_error.result) (λ none. none) (λ none. none) (omega (arith, same))
+    asks_none Idles (state_in order v) (state_in order w) (g.M.Media.state c.args.media.now) (g.M.Media.state c.checkpoint.new.media) (Err c.cache_error.result) (λ none. none) (λ finds none. none) (omega (arith, same))
 
 pub returns-in-Err-clause-serves : goal.returns-in-Err-clause-serves
 returns-in-Err-clause-serves g c =
@@ -129,9 +145,10 @@ returns-in-Err-clause-serves g c =
     let memory : c.in-Err.error ≡ OutOfMemory → ⊥ = λ none. c.in-Err.ensures.runs.memory (ap Err none) in
     let down = stopped_down v c.checkpoint.new.self (c.in-Err.ensures.runs.stopped ∙ gives_up c.in-Err.error (λ n limit full. c.in-Err.ensures.runs.full n limit (ap Err full)) memory) in
     record {
-      left = refused_left v c.checkpoint.new.self old new s by shown.list shown.shows shown.stands
-          down;
-      was = λ order base stand. refused_same Idles (state_in order v) (state_in order w) new base refl refl (refused_stands v c.checkpoint.new.self old new s by shown.list shown.shows shown.stands base stand) c.cache_error.result;
+      left = refused_left v c.checkpoint.new.self old new s by shown down;
+      keeps = refused_stays v c.checkpoint.new.self (g.M.Media.state c.args.media.now) (g.M.Media.state c.checkpoint.new.media) (ssc_failed c.checkpoint.result) (ssc_lost c.checkpoint.result) c.requires.may.left c.requires.may.up c.checkpoint.ensures.runs.geometry c.checkpoint.ensures.runs.drives
+          (λ t held. commit_shows v old t c.requires.may.left.own held new.flash.page (c.checkpoint.ensures.images t held.holds (with_newest new) (newest_image new))) down;
+      found = tt;
       goes = λ order. goes_at {S = Unit {0}} {T = Idled} (state_in order v) (state_in order w) (g.M.Media.state c.args.media.now) (g.M.Media.state c.checkpoint.new.media) c.cache_error.result
           (goes_down (g.M.Media.state c.args.media.now) (g.M.Media.state c.checkpoint.new.media) (state_in order v) (state_in order w) c.in-Err.error c.cache_error.result refl down
           c.cache_error.ensures memory c.in-Err.ensures.runs.drives);

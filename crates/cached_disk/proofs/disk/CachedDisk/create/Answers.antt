@@ -1,3 +1,6 @@
+use Rattle.std.specs.List.{list_any}
+use Rattle.cache_model.specs.Cache.{is_write}
+use Rattle.cached_disk.proofs.ReadLemmas.{owes_none}
 use Rattle.std.proofs.Common.{refl, rules, sym, subst, ◌∙◌, false, ap, arith, ℕ}
 use Rattle.ft_base.specs.Contents.{Shape, Values}
 use Rattle.ft_volume.specs.Opening.{nothing_held}
@@ -13,6 +16,15 @@ returns-in-Ok-clause-owns g c =
     let mid = (g.M.Media.state c.format.new.media).contents in
     opened_left v mid (g.M.Media.state c.open_cache.new.media).contents nothing_held c.in-Ok.ensures.opened c.in-Ok.ensures.opening.opens c.in_default.ensures.done (none_agrees mid.disk) (none_suits v.mode)
     (subst (λ (x : Shape). FitsOn c.args.options.now.geometry x) (sym (c.in-Ok.ensures.opening.goes.passes.shape ∙ c.format.ensures.drives.passes.shape)) c.requires.shape)
+
+pub returns-in-Ok-clause-owes : goal.returns-in-Ok-clause-owes
+returns-in-Ok-clause-owes g c =
+    let v : CachedDisk = record { alloc = c.args.alloc; options = c.args.options.now; mode = c.args.mode; cache = c.in-Ok.cache; down = false } in
+    let mid = (g.M.Media.state c.format.new.media).contents in
+    let new = (g.M.Media.state c.open_cache.new.media).contents in
+    owes_none v new (ap (list_any is_write) c.in-Ok.ensures.opened.nothing_waits)
+    (opened_left v mid new nothing_held c.in-Ok.ensures.opened c.in-Ok.ensures.opening.opens c.in_default.ensures.done (none_agrees mid.disk) (none_suits v.mode)
+    (subst (λ (x : Shape). FitsOn c.args.options.now.geometry x) (sym (c.in-Ok.ensures.opening.goes.passes.shape ∙ c.format.ensures.drives.passes.shape)) c.requires.shape))
 
 pub returns-in-Ok-clause-opened : goal.returns-in-Ok-clause-opened
 returns-in-Ok-clause-opened g c =

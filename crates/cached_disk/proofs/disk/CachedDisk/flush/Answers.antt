@@ -1,3 +1,5 @@
+use Rattle.std.specs.List.{list_any}
+use Rattle.cache_model.specs.Cache.{is_write}
 use Rattle.std.proofs.Common.{◌≡◌, Ok, Err, refl, rules, sym, ◌∙◌, ap, arith}
 use Rattle.ft_base.proofs.Images.{newest_image, with_newest}
 use Rattle.ft_volume.specs.Volume.{Flushes}
@@ -7,9 +9,9 @@ use Rattle.ssc.specs.Errors.{ssc_failed, ssc_lost}
 use Rattle.cached_disk.specs.declared.disk.CachedDisk.{CachedDisk}
 use Rattle.cached_disk.specs.Kept.{state_in, waiting_in, told_of}
 use Rattle.cached_disk.proofs.AddressLemmas.{holds_held}
-use Rattle.cached_disk.proofs.CallLemmas.{answered_same, asks_none, gives_up, goes_down, goes_driven, none_up, refused_costs, refused_same, same_costs}
+use Rattle.cached_disk.proofs.CallLemmas.{asks_none, gives_up, goes_down, goes_driven, none_up, refused_costs, same_costs}
 use Rattle.cached_disk.proofs.HeldLemmas.{is_up, stopped_down}
-use Rattle.cached_disk.proofs.ReadLemmas.{commit_shows, done_dirty, done_left, done_stands, drove_held, may_none, refused_left, refused_stands, shows_itself, still_up}
+use Rattle.cached_disk.proofs.ReadLemmas.{commit_shows, done_dirty, done_left, drove_held, may_none, refused_left, refused_stays, settled_stays, shows_itself, still_up}
 use Rattle.cached_disk.proofs.disk.CachedDisk.flush.Goals as goal
 
 pub commit-requires : goal.commit-requires
@@ -25,9 +27,9 @@ returns-in-Ok-clause-serves g c =
     let by = drove_held v c.commit.new.self (g.M.Media.state c.args.media.now) (g.M.Media.state c.commit.new.media) (ssc_failed c.commit.result) (ssc_lost c.commit.result) c.requires.may.left c.requires.may.up c.commit.ensures.runs.geometry c.commit.ensures.runs.drives in
     let w : CachedDisk = record v { cache = c.commit.new.self } in
     record {
-      left = done_left v c.commit.new.self old new s by s (shows_itself v old s is) (c.in-Ok.ensures.done s is.holds) (λ a dirty. dirty) (may_none (told_of v) (pending c.commit.new.self) c.in-Ok.ensures.nothing_waits);
-      was = λ order base stand. answered_same Flushes (state_in order v) (state_in order w) new base refl refl
-          (done_stands v c.commit.new.self old new s by s (shows_itself v old s is) (c.in-Ok.ensures.done s is.holds) (λ a dirty. dirty) (may_none (told_of v) (pending c.commit.new.self) c.in-Ok.ensures.nothing_waits) base stand) tt refl tt;
+      left = done_left v c.commit.new.self old new s by s (shows_itself v old s is) (c.in-Ok.ensures.done s is.holds) (λ a dirty. dirty) (may_none (told_of v) (pending c.commit.new.self) c.in-Ok.ensures.nothing_waits) (ap (list_any is_write) c.in-Ok.ensures.nothing_waits);
+      keeps = settled_stays v c.commit.new.self (g.M.Media.state c.args.media.now) (g.M.Media.state c.commit.new.media) (ssc_failed c.commit.result) (ssc_lost c.commit.result) c.requires.may.left c.requires.may.up c.commit.ensures.runs.geometry c.commit.ensures.runs.drives c.in-Ok.ensures.done c.in-Ok.ensures.nothing_waits;
+      found = λ owed owes base stand. tt;
       goes = λ order. goes_driven tt (g.M.Media.state c.args.media.now) (g.M.Media.state c.commit.new.media) (state_in order v) (state_in order w) refl
           (still_up v c.commit.new.self c.requires.may.up c.in-Ok.ensures.runs.stopped) c.in-Ok.ensures.runs.drives;
       dirty = λ still. done_dirty v c.commit.new.self old new s by s (shows_itself v old s is) (c.in-Ok.ensures.done s is.holds) (λ a dirty. dirty) (λ a dirty. dirty);
@@ -61,7 +63,7 @@ returns-in-Ok-clause-asks g c = λ order.
     let v = c.args.self.now in
     let w : CachedDisk = record v { cache = c.commit.new.self } in
     let same = c.commit.ensures.runs.drives.disk_flushes in
-    asks_none Flushes (state_in order v) (state_in order w) (g.M.Media.state c.args.media.now) (g.M.Media.state c.commit.new.media) (Ok tt) (λ none. none) (λ none. none) (omega (arith, same))
+    asks_none Flushes (state_in order v) (state_in order w) (g.M.Media.state c.args.media.now) (g.M.Media.state c.commit.new.media) (Ok tt) (λ none. none) (λ finds none. none) (omega (arith, same))
 
 pub returns-in-Err-clause-costs : goal.returns-in-Err-clause-costs
 returns-in-Err-clause-costs g c = λ order.
@@ -78,7 +80,7 @@ returns-in-Err-clause-asks g c = λ order.
     let v = c.args.self.now in
     let w : CachedDisk = record v { cache = c.commit.new.self } in
     let same = c.commit.ensures.runs.drives.disk_flushes in
-    asks_none Flushes (state_in order v) (state_in order w) (g.M.Media.state c.args.media.now) (g.M.Media.state c.commit.new.media) (Err c.cache_error.result) (λ none. none) (λ none. none) (omega (arith, same))
+    asks_none Flushes (state_in order v) (state_in order w) (g.M.Media.state c.args.media.now) (g.M.Media.state c.commit.new.media) (Err c.cache_error.result) (λ none. none) (λ finds none. none) (omega (arith, same))
 
 pub returns-in-Err-clause-serves : goal.returns-in-Err-clause-serves
 returns-in-Err-clause-serves g c =
@@ -93,12 +95,19 @@ returns-in-Err-clause-serves g c =
     let memory : c.in-Err.error ≡ OutOfMemory → ⊥ = λ none. c.in-Err.ensures.runs.memory (ap Err none) in
     let down = stopped_down v c.commit.new.self (c.in-Err.ensures.runs.stopped ∙ gives_up c.in-Err.error (λ n limit full. c.in-Err.ensures.runs.full n limit (ap Err full)) memory) in
     record {
-      left = refused_left v c.commit.new.self old new s by shown.list shown.shows shown.stands
-          down;
-      was = λ order base stand. refused_same Flushes (state_in order v) (state_in order w) new base refl refl (refused_stands v c.commit.new.self old new s by shown.list shown.shows shown.stands base stand) c.cache_error.result;
+      left = refused_left v c.commit.new.self old new s by shown down;
+      keeps = refused_stays v c.commit.new.self (g.M.Media.state c.args.media.now) (g.M.Media.state c.commit.new.media) (ssc_failed c.commit.result) (ssc_lost c.commit.result) c.requires.may.left c.requires.may.up c.commit.ensures.runs.geometry c.commit.ensures.runs.drives
+          (λ t held. commit_shows v old t c.requires.may.left.own held new.flash.page (c.commit.ensures.images t held.holds (with_newest new) (newest_image new))) down;
+      found = tt;
       goes = λ order. goes_down (g.M.Media.state c.args.media.now) (g.M.Media.state c.commit.new.media) (state_in order v) (state_in order w) c.in-Err.error c.cache_error.result refl down
           c.cache_error.ensures memory c.in-Err.ensures.runs.drives;
       dirty = search rules;
       made = search rules;
       within = search rules;
     }
+
+pub returns-in-Ok-clause-no_disk : goal.returns-in-Ok-clause-no_disk
+returns-in-Ok-clause-no_disk g c = let drives = c.commit.ensures.runs.drives in record { disk_reads = drives.disk_reads; disk_writes = drives.disk_writes; disk_flushes = drives.disk_flushes }
+
+pub returns-in-Err-clause-no_disk : goal.returns-in-Err-clause-no_disk
+returns-in-Err-clause-no_disk g c = let drives = c.commit.ensures.runs.drives in record { disk_reads = drives.disk_reads; disk_writes = drives.disk_writes; disk_flushes = drives.disk_flushes }

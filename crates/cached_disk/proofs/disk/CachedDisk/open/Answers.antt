@@ -23,3 +23,7 @@ returns-clause-reads g c = (opens_made c.args.options.now c.args.mode c.in_ok-lo
 pub returns-clause-stands : goal.returns-clause-stands
 returns-clause-stands g c = (opens_made c.args.options.now c.args.mode c.in_ok-loaded.loaded c.in_ok-loaded.ensures.made (g.M.Media.state c.args.media.now) (g.M.Media.state c.load.new.media) (g.M.Media.state c.seal.new.media)
     c.seal.result c.in_ok-loaded.ensures.loaded c.requires.agrees c.seal.ensures.opens).stands
+
+pub returns-clause-owes : goal.returns-clause-owes
+returns-clause-owes g c = (opens_made c.args.options.now c.args.mode c.in_ok-loaded.loaded c.in_ok-loaded.ensures.made (g.M.Media.state c.args.media.now) (g.M.Media.state c.load.new.media) (g.M.Media.state c.seal.new.media)
+    c.seal.result c.in_ok-loaded.ensures.loaded c.requires.agrees c.seal.ensures.opens).owes

@@ -1,19 +1,21 @@
-use Rattle.std.proofs.Common.{◌≡◌, Bool, true, false, Ok, Err, refl, rules, sym, ◌∙◌, ap, subst, arith}
+use Rattle.std.proofs.lemmas.Result.{on_ok_weaker}
+use Rattle.ft_base.specs.PlainDisk.{BlockWrite, after_writes}
+use Rattle.std.proofs.Common.{◌≡◌, Bool, true, false, List, Ok, Err, refl, rules, sym, ◌∙◌, ap, subst, arith}
 use Rattle.std.specs.FinMap.{get}
 use Rattle.std.specs.Option.{is_some}
 use Rattle.ft_base.specs.Contents.{Contents}
 use Rattle.ft_media.specs.declared.rig.Counts.{Counts}
 use Rattle.ft_volume.specs.Opening.{ImageIs}
-use Rattle.ft_volume.specs.Volume.{Costs, Goes, Reads, WasDone}
+use Rattle.ft_volume.specs.Volume.{Costs, Goes, Reads}
 use Rattle.ft_volume.specs.Standing.{StandFor}
 use Rattle.ssc.specs.declared.cache.Ssc.{Ssc}
 use Rattle.ssc.specs.CacheState.{entries_of}
 use Rattle.ssc.specs.Commands.{ReadOf}
 use Rattle.cached_disk.specs.declared.disk.CachedDisk.{CachedDisk}
 use Rattle.cached_disk.specs.Kept.{state_in, told_of}
-use Rattle.cached_disk.proofs.CallLemmas.{answered_same, asks_held, asks_missing, costs_after, goes_after, reads_as, refused_costs, refused_same, same_up}
+use Rattle.cached_disk.proofs.CallLemmas.{asks_held, asks_missing, costs_after, goes_after, reads_as, refused_costs, same_up}
 use Rattle.cached_disk.proofs.HeldLemmas.{found_held, is_up, left_same, read_absent}
-use Rattle.cached_disk.proofs.ReadLemmas.{absent_entry}
+use Rattle.cached_disk.proofs.ReadLemmas.{absent_entry, owes_held, same_owes, stays_after, stays_same}
 use Rattle.cached_disk.proofs.disk.CachedDisk.read.Goals as goal
 
 pub read-requires-clause-up : goal.read-requires-clause-up
@@ -46,10 +48,11 @@ returns-in-Ok-false-clause-serves g c =
     let before = g.M.Media.state c.args.media.now in
     let between = g.M.Media.state c.read.new.media in
     let after = g.M.Media.state c.read_missing.new.media in
+    let same = ap (λ (k : Ssc). record v { cache = k }) c.read.ensures.same in
     record {
       left = search rules;
-      was = λ order base stand. subst (λ (k : Ssc). WasDone ImageIs (Reads c.args.lba c.read_missing.new.block) (state_in order (record v { cache = k })) (state_in order c.read_missing.new.self) (g.M.Media.state c.read_missing.new.media).contents c.read_missing.result base) c.read.ensures.same
-          (c.read_missing.ensures.serves.was order base (subst (λ (x : Contents). StandFor (ImageIs (told_of v)) x base) (sym c.read.ensures.reads.contents) stand));
+      keeps = stays_after v u c.read_missing.new.self before.contents between.contents after.contents (same_owes v u before.contents between.contents same c.read.ensures.reads.contents) (λ d stand. subst (λ (x : Contents). StandFor (ImageIs (told_of v)) x d) (sym c.read.ensures.reads.contents) stand) refl c.read_missing.ensures.serves.keeps;
+      found = on_ok_weaker c.read_missing.result (λ found owed owes base stand. found owed (same_owes v u before.contents between.contents same c.read.ensures.reads.contents owed owes) base (subst (λ (x : Contents). StandFor (ImageIs (told_of v)) x base) (sym c.read.ensures.reads.contents) stand)) c.read_missing.ensures.serves.found;
       goes = λ order. subst (λ (k : Ssc). Goes (state_in order (record v { cache = k })) (state_in order c.read_missing.new.self) before after c.read_missing.result) c.read.ensures.same
           (goes_after before between after c.read.ensures.reads.contents (c.in-Ok-false.ensures.reads.cause.none refl refl)
           c.in-Ok-false.ensures.reads.passes (state_in order u) (state_in order c.read_missing.new.self) c.read_missing.result (c.read_missing.ensures.serves.goes order));
@@ -97,15 +100,14 @@ returns-in-Ok-true-clause-serves g c =
     let old = (g.M.Media.state c.args.media.now).contents in
     let mid = (g.M.Media.state c.read.new.media).contents in
     let w : CachedDisk = record v { cache = c.read.new.self } in
-    let s = c.requires.may.left.held in
-    let held = c.requires.may.left.up c.requires.may.up in
     let is : c.in-Ok-true.field-0 ≡ true = search rules in
-    let read : ReadOf (get s c.args.lba) true c.read.new.block = subst (λ (x : Bool). ReadOf (get s c.args.lba) x c.read.new.block) is (c.in-Ok-true.ensures.found s held.holds) in
     record {
       left = left_same v c.read.new.self old mid c.read.ensures.same c.read.ensures.reads.contents c.requires.may.left;
-      was = λ order base stand. answered_same (Reads c.args.lba c.read.new.block) (state_in order v) (state_in order w) mid base refl refl
-          (subst (λ (x : Contents). StandFor (ImageIs (told_of v)) x base) (sym c.read.ensures.reads.contents) stand) tt refl
-          (found_held v old s c.requires.may.left.own held c.args.lba c.read.new.block c.requires.lba read base stand);
+      keeps = stays_same v w old mid (ap (λ (k : Ssc). record v { cache = k }) c.read.ensures.same) c.read.ensures.reads.contents;
+      found = λ owed owes base stand.
+          let was = owes_held v old owed c.requires.may.up owes in
+          let read : ReadOf (get was.0 c.args.lba) true c.read.new.block = subst (λ (x : Bool). ReadOf (get was.0 c.args.lba) x c.read.new.block) is (c.in-Ok-true.ensures.found was.0 was.1.holds) in
+          subst (λ (ws : List BlockWrite). c.read.new.block ≡ after_writes ws base c.args.lba) (sym was.2) (found_held v old was.0 c.requires.may.left.own was.1 c.args.lba c.read.new.block c.requires.lba read base stand);
       goes = search rules;
       dirty = search rules;
       made = search rules;
@@ -122,8 +124,8 @@ returns-in-Err-clause-serves g c =
     let w : CachedDisk = record v { cache = c.read.new.self } in
     record {
       left = left_same v c.read.new.self old mid c.read.ensures.same c.read.ensures.reads.contents c.requires.may.left;
-      was = λ order base stand. refused_same (Reads c.args.lba c.read.new.block) (state_in order v) (state_in order w) mid base refl refl
-          (subst (λ (x : Contents). StandFor (ImageIs (told_of v)) x base) (sym c.read.ensures.reads.contents) stand) c.cache_error.result;
+      keeps = stays_same v w old mid (ap (λ (k : Ssc). record v { cache = k }) c.read.ensures.same) c.read.ensures.reads.contents;
+      found = tt;
       goes = search rules;
       dirty = search rules;
       made = search rules;

@@ -1,4 +1,5 @@
-use Rattle.std.proofs.Common.{◌≡◌, Bool, cond, Ok, Err, refl, rules, sym, ◌∙◌, ap, subst, arith}
+use Rattle.ft_base.specs.PlainDisk.{BlockWrite, after_writes}
+use Rattle.std.proofs.Common.{◌≡◌, Bool, cond, List, Ok, Err, refl, rules, sym, ◌∙◌, ap, subst, arith}
 use Rattle.std.specs.FinMap.{get}
 use Rattle.std.specs.Option.{is_some}
 use Rattle.std.proofs.lemmas.Bool.{false≢true}
@@ -15,15 +16,13 @@ use Rattle.ft_volume.specs.declared.volume.VolumeError.TheVariants as volume
 use Rattle.cache_model.specs.Records.{Entries}
 use Rattle.ssc.specs.CacheState.{entries_of}
 use Rattle.ssc.specs.Errors.{ssc_failed, ssc_lost}
-use Rattle.ssc.proofs.LosingLemmas.{pends_buffered}
-use Rattle.cache_model.specs.Cache.{Inserted, written_clean}
 use Rattle.ssc.specs.declared.error.SscError.TheVariants.{OutOfMemory}
 use Rattle.cached_disk.specs.declared.disk.CachedDisk.{CachedDisk}
 use Rattle.cached_disk.specs.Kept.{state_in, told_of, waiting_in}
-use Rattle.cached_disk.proofs.CallLemmas.{answered_same, gives_up, goes_after, goes_down, goes_driven, missed_costs, none_up, refused_costs, refused_same, same_up}
+use Rattle.cached_disk.proofs.CallLemmas.{gives_up, goes_after, goes_down, goes_driven, missed_costs, none_up, refused_costs, same_up}
 use Rattle.cached_disk.proofs.HeldLemmas.{found_absent, is_up, stopped_down}
 use Rattle.cached_disk.proofs.OpenedLemmas.{reserved_tells}
-use Rattle.cached_disk.proofs.ReadLemmas.{IsReserved, absent_held, cut_left, cut_stands, drove_held, on_ok_of, put_dirty, put_held, put_left, put_stands, reserved_left, reserved_up, still_up}
+use Rattle.cached_disk.proofs.ReadLemmas.{IsReserved, absent_held, cut_left, cut_stays, drove_held, on_ok_of, owes_held, put_dirty, put_held, put_left, put_stays, reserved_left, reserved_owes, reserved_stays, reserved_up, stays_after, still_up}
 use Rattle.cached_disk.proofs.RefusedLemmas.{goes_refused}
 use Rattle.cached_disk.proofs.disk.CachedDisk.read_missing.Goals as goal
 
@@ -37,7 +36,8 @@ returns-then-is_err-clause-serves g c =
     let old = (g.M.Media.state c.args.media.now).contents in
     record {
       left = reserved_left v k reserved old old refl c.requires.may.left;
-      was = search rules;
+      keeps = reserved_stays v k reserved old old refl;
+      found = tt;
       goes = search rules;
       dirty = search rules;
       made = search rules;
@@ -75,7 +75,8 @@ returns-in-Err-clause-serves g c =
     let u : CachedDisk = record v { cache = k } in
     record {
       left = reserved_left v k reserved before.contents mid.contents c.read_block.ensures.contents c.requires.may.left;
-      was = λ order base stand. refused_same (Reads c.args.lba c.args.block.now) (state_in order v) (state_in order u) mid.contents base refl refl (subst (λ (x : Contents). StandFor (ImageIs (told_of v)) x base) (sym c.read_block.ensures.contents) stand) c.disk_error.result;
+      keeps = reserved_stays v k reserved before.contents mid.contents c.read_block.ensures.contents;
+      found = tt;
       goes = λ order.
           goes_refused before mid (state_in order v) (state_in order u) refl (reserved_up v k reserved c.requires.may.up) c.read_block.ensures.contents c.in-Err.error c.disk_error.result c.disk_error.ensures c.in-Err.ensures.cause
           (λ is. c.in-Err.ensures.memory (ap (λ (e : MediaError). Err e) is)) c.in-Err.ensures.power c.in-Err.ensures.passes;
@@ -116,11 +117,17 @@ returns-in-Ok-clause-serves g c =
     let newest = c.in_default.ensures.found ∙ sym (ap (λ (x : Contents). (x.disk c.args.lba).newest) c.read_block.ensures.contents) in
     let h = c.in-Ok.ensures.done s by.is.holds in
     let w : CachedDisk = record v { cache = put } in
+    let none_now = ap (λ (m : Entries). get m c.args.lba) c.reserve.ensures.entries ∙ c.requires.absent in
     record {
-      left = put_left u put mid.contents after.contents s by c.args.lba c.read_block.new.block absent newest h (pends_buffered k put mid.contents after.contents s by.is.holds c.args.lba (written_clean c.args.lba c.read_block.new.block) (Inserted c.args.lba) (c.in-Ok.ensures.at_absent s by.is.holds absent));
-      was = λ order base stand. answered_same (Reads c.args.lba c.read_block.new.block) (state_in order v) (state_in order w) after.contents base refl refl
-          (put_stands u put mid.contents after.contents s by c.args.lba c.read_block.new.block absent newest h (pends_buffered k put mid.contents after.contents s by.is.holds c.args.lba (written_clean c.args.lba c.read_block.new.block) (Inserted c.args.lba) (c.in-Ok.ensures.at_absent s by.is.holds absent)) base (subst (λ (x : Contents). StandFor (ImageIs (told_of v)) x base) (sym c.read_block.ensures.contents) stand)) tt refl
-          (newest ∙ found_absent u mid.contents s left.own (left.up up) c.args.lba c.requires.lba absent base (subst (λ (x : Contents). StandFor (ImageIs (told_of v)) x base) (sym c.read_block.ensures.contents) stand));
+      left = put_left u put mid.contents after.contents s by c.args.lba c.read_block.new.block absent newest (c.in-Ok.ensures.at_absent s by.is.holds absent);
+      keeps = stays_after v u w before.contents mid.contents after.contents (reserved_owes v k reserved before.contents mid.contents c.read_block.ensures.contents)
+          (λ d stand. subst (λ (x : Contents). StandFor (ImageIs (told_of v)) x d) (sym c.read_block.ensures.contents) stand) refl
+          (put_stays u put mid after (ssc_failed c.write_clean.result) (ssc_lost c.write_clean.result) left up c.write_clean.ensures.runs.geometry c.write_clean.ensures.runs.drives c.args.lba c.read_block.new.block none_now newest
+          c.in-Ok.ensures.at_absent (still_up v put c.requires.may.up c.in-Ok.ensures.runs.stopped));
+      found = λ owed owes base stand.
+          let was = owes_held v before.contents owed c.requires.may.up owes in
+          subst (λ (ws : List BlockWrite). c.read_block.new.block ≡ after_writes ws base c.args.lba) (sym was.2)
+          (c.in_default.ensures.found ∙ found_absent v before.contents was.0 c.requires.may.left.own was.1 c.args.lba c.requires.lba (absent_held v.cache before.contents was.0 was.1.holds c.args.lba c.requires.absent) base stand);
       goes = λ order. goes_after before mid after c.read_block.ensures.contents (c.in_default.ensures.cause.none refl refl) c.in_default.ensures.passes (state_in order v) (state_in order w) (Ok tt)
           (goes_driven tt mid after (state_in order v) (state_in order w) refl (still_up v put c.requires.may.up c.in-Ok.ensures.runs.stopped) c.in-Ok.ensures.runs.drives);
       dirty = λ still. put_dirty u put mid.contents after.contents s by c.args.lba c.read_block.new.block absent newest h ∙ ap dirty_lbas c.reserve.ensures.entries;
@@ -176,8 +183,11 @@ returns-in-Err-write_clean-clause-serves g c =
     let w : CachedDisk = record v { cache = put } in
     record {
       left = cut_left u put mid.contents after.contents s by c.args.lba c.read_block.new.block absent newest stands down;
-      was = λ order base stand. refused_same (Reads c.args.lba c.args.block.now) (state_in order v) (state_in order w) after.contents base refl refl
-          (cut_stands u put mid.contents after.contents s by c.args.lba c.read_block.new.block absent newest stands base (subst (λ (x : Contents). StandFor (ImageIs (told_of v)) x base) (sym c.read_block.ensures.contents) stand)) c.cache_error.result;
+      keeps = stays_after v u w before.contents mid.contents after.contents (reserved_owes v k reserved before.contents mid.contents c.read_block.ensures.contents)
+          (λ d stand. subst (λ (x : Contents). StandFor (ImageIs (told_of v)) x d) (sym c.read_block.ensures.contents) stand) refl
+          (cut_stays u put mid after (ssc_failed c.write_clean.result) (ssc_lost c.write_clean.result) left up c.write_clean.ensures.runs.geometry c.write_clean.ensures.runs.drives c.args.lba c.read_block.new.block
+          (ap (λ (m : Entries). get m c.args.lba) c.reserve.ensures.entries ∙ c.requires.absent) newest (λ s h. c.write_clean.ensures.images s h (with_newest after.contents) (newest_image after.contents)) down);
+      found = tt;
       goes = λ order. goes_after before mid after c.read_block.ensures.contents (c.in_default.ensures.cause.none refl refl) c.in_default.ensures.passes (state_in order v) (state_in order w) (Err c.cache_error.result)
           (goes_down mid after (state_in order v) (state_in order w) c.in-Err-write_clean.error c.cache_error.result refl down c.cache_error.ensures memory c.in-Err-write_clean.ensures.runs.drives);
       dirty = search rules;

@@ -1,18 +1,15 @@
-use Rattle.std.proofs.Common.{◌≡◌, false, [], Ok, Err, refl, sym, ◌∙◌, ap, subst, rules}
+use Rattle.std.proofs.Common.{◌≡◌, false, [], Ok, Err, sym, ◌∙◌, ap, rules}
 use Rattle.std.proofs.lemmas.Bool.{both_ways}
-use Rattle.ft_base.specs.Contents.{Contents}
-use Rattle.ft_volume.specs.Opening.{ImageIs}
-use Rattle.ft_volume.specs.Volume.{Reports, dirty_lbas}
-use Rattle.ft_volume.specs.Standing.{StandFor}
+use Rattle.ft_volume.specs.Volume.{dirty_lbas}
 use Rattle.ft_volume.specs.declared.volume.Report.{Report}
 use Rattle.mapping.specs.Counts.{held_count}
 use Rattle.ssc.specs.declared.cache.Ssc.{Ssc}
 use Rattle.ssc.specs.CacheState.{entries_of, pending}
 use Rattle.cached_disk.specs.declared.disk.CachedDisk.{CachedDisk}
-use Rattle.cached_disk.specs.Kept.{is_down, state_in, told_of}
-use Rattle.cached_disk.proofs.CallLemmas.{answered_same, refused_same}
+use Rattle.cached_disk.specs.Kept.{is_down, state_in}
+use Rattle.cached_disk.proofs.ReadLemmas.{stays_then}
 use Rattle.cached_disk.proofs.HeldLemmas.{is_up, left_same}
-use Rattle.cached_disk.proofs.ReportLemmas.{asks_read, costs_at, costs_read, costs_unread, flushed_stands, goes_at, goes_both, goes_read, goes_unread, loads_left, not_disk, report_is}
+use Rattle.cached_disk.proofs.ReportLemmas.{asks_read, costs_at, costs_read, costs_unread, goes_at, goes_both, goes_read, goes_unread, loads_left, not_disk, report_is}
 use Rattle.cached_disk.proofs.disk.CachedDisk.report.Goals as goal
 
 -- the flush failed
@@ -24,7 +21,8 @@ returns-in-Err-clause-serves g c =
     let mid = (g.M.Media.state c.flush.new.media).contents in
     record {
       left = search rules;
-      was = λ order base stand. refused_same Reports (state_in order v) (state_in order u) mid base refl refl (flushed_stands (state_in order v) (state_in order u) mid c.flush.result base refl (c.flush.ensures.serves.was order base stand)) c.in-Err.error;
+      keeps = c.flush.ensures.serves.keeps;
+      found = tt;
       goes = λ order. goes_at {S = Unit {0}} {T = Report} (state_in order c.args.self.now) (state_in order c.flush.new.self) (g.M.Media.state c.args.media.now) (g.M.Media.state c.flush.new.media) c.in-Err.error (c.in-Err.ensures.serves.goes order);
       dirty = search rules;
       made = search rules;
@@ -35,7 +33,7 @@ pub returns-in-Err-clause-costs : goal.returns-in-Err-clause-costs
 returns-in-Err-clause-costs g c = λ order. costs_at {S = Unit {0}} {T = Report} (state_in order c.args.self.now) (state_in order c.flush.new.self) (g.M.Media.state c.args.media.now) (g.M.Media.state c.flush.new.media) c.in-Err.error (c.in-Err.ensures.costs order)
 
 pub returns-in-Err-clause-asks : goal.returns-in-Err-clause-asks
-returns-in-Err-clause-asks g c = λ order. record { flushes = (c.flush.ensures.asks order).flushes; found = λ none. absurd none; two_programs = tt }
+returns-in-Err-clause-asks g c = λ order. record { flushes = (c.flush.ensures.asks order).flushes; found = λ none. absurd none; two_programs = tt; one_program = tt }
 
 pub returns-in-Err-clause-nothing_waits : goal.returns-in-Err-clause-nothing_waits
 returns-in-Err-clause-nothing_waits g c = λ up. absurd (both_ways (is_down c.flush.new.self) up c.in-Err.ensures.refused)
@@ -59,11 +57,8 @@ returns-in-Ok-clause-serves g c =
     let before = g.M.Media.state c.args.media.now in
     record {
       left = left_same c.flush.new.self c.scrub.new.self (g.M.Media.state c.flush.new.media).contents (g.M.Media.state c.scrub.new.media).contents c.scrub.ensures.same c.scrub.ensures.reads.contents c.flush.ensures.serves.left;
-      was = λ order base stand.
-          let mid = (g.M.Media.state c.flush.new.media).contents in
-          let after = (g.M.Media.state c.scrub.new.media).contents in
-          let stands = flushed_stands (state_in order v) (state_in order u) mid c.flush.result base refl (c.flush.ensures.serves.was order base stand) in
-          answered_same Reports (state_in order v) (state_in order w) after base refl refl (subst (λ (x : Contents). StandFor (ImageIs (told_of u)) x base) (sym c.scrub.ensures.reads.contents) stands) _ refl tt;
+      keeps = stays_then v u w before.contents (g.M.Media.state c.flush.new.media).contents (g.M.Media.state c.scrub.new.media).contents (ap (λ (k : Ssc). record u { cache = k }) c.scrub.ensures.same) c.scrub.ensures.reads.contents c.flush.ensures.serves.keeps;
+      found = λ owed owes base stand. tt;
       goes = λ order.
           let mid = g.M.Media.state c.flush.new.media in
           let after = g.M.Media.state c.scrub.new.media in
@@ -124,11 +119,8 @@ returns-in-Err-scrub-clause-serves g c =
     let before = g.M.Media.state c.args.media.now in
     record {
       left = left_same c.flush.new.self c.scrub.new.self (g.M.Media.state c.flush.new.media).contents (g.M.Media.state c.scrub.new.media).contents c.scrub.ensures.same c.scrub.ensures.reads.contents c.flush.ensures.serves.left;
-      was = λ order base stand.
-          let mid = (g.M.Media.state c.flush.new.media).contents in
-          let after = (g.M.Media.state c.scrub.new.media).contents in
-          let stands = flushed_stands (state_in order v) (state_in order u) mid c.flush.result base refl (c.flush.ensures.serves.was order base stand) in
-          refused_same Reports (state_in order v) (state_in order w) after base refl refl (subst (λ (x : Contents). StandFor (ImageIs (told_of u)) x base) (sym c.scrub.ensures.reads.contents) stands) c.cache_error.result;
+      keeps = stays_then v u w before.contents (g.M.Media.state c.flush.new.media).contents (g.M.Media.state c.scrub.new.media).contents (ap (λ (k : Ssc). record u { cache = k }) c.scrub.ensures.same) c.scrub.ensures.reads.contents c.flush.ensures.serves.keeps;
+      found = tt;
       goes = λ order.
           let mid = g.M.Media.state c.flush.new.media in
           let after = g.M.Media.state c.scrub.new.media in

@@ -25,6 +25,7 @@ returns-in-Err-clause-opens g c = λ start since may.
     let after = g.M.Media.state c.seal.new.media in
     record {
       owns = tt;
+      owes = tt;
       opened = tt;
       opening = opening_since own start now after c.args.self.cache since {T = CachedDisk} (Err c.in-Err.error) c.seal.ensures.stands c.in-Err.ensures.refused c.in-Err.ensures.drives;
       reads = flash_reads {T = CachedDisk} start after (Err c.in-Err.error) c.in-Err.ensures.refused;

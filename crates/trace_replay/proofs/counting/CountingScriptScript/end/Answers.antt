@@ -1,7 +1,6 @@
-use Rattle.std.proofs.Common.{[], ◌+◌, refl, arith}
+use Rattle.std.proofs.Common.{[], refl}
 use Rattle.std.proofs.lemmas.Result.{on_ok_weaker}
 use Rattle.sha2.specs.Sha256.{sha256}
-use Rattle.trace_model.specs.declared.answer.Answer.TheVariants as answer
 use Rattle.trace_replay.specs.Events.{told_bytes}
 use Rattle.trace_replay.proofs.AskedLemmas.{asked_end, asked_still}
 use Rattle.trace_replay.proofs.counting.CountingScriptScript.end.Goals as goal

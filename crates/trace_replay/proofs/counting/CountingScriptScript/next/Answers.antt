@@ -1,5 +1,4 @@
-use Rattle.std.proofs.Common.{[], ◌∷◌, inl, inr, refl}
-use Rattle.trace_replay.specs.Events.Event.{Gave}
+use Rattle.std.proofs.Common.{[], inl, inr, refl}
 use Rattle.trace_replay.proofs.AskedLemmas.{asked_refused, asked_still, at_some, refused_also}
 use Rattle.trace_replay.proofs.counting.CountingScriptScript.next.Goals as goal
 

@@ -1,17 +1,16 @@
-use Rattle.std.proofs.Common.{rules, Ok, Err, refl, sym, ap, subst}
-use Rattle.ft_base.specs.Told.{Told}
-use Rattle.ft_volume.specs.Opening.{ImageIs}
+use Rattle.std.proofs.Common.{rules, Ok, Err, ap}
 use Rattle.ft_volume.specs.Volume.{Idles}
-use Rattle.ft_volume.specs.Standing.{StandFor}
 use Rattle.ft_volume.specs.declared.volume.Idled.TheVariants.{Cleaned}
 use Rattle.cached_disk.specs.declared.disk.CachedDisk.{CachedDisk}
-use Rattle.cached_disk.proofs.CallLemmas.{answered_same, if_ok_also, refused_same}
+use Rattle.cached_disk.proofs.CallLemmas.{if_ok_also}
+use Rattle.cached_disk.specs.Kept.{told_of}
 use Rattle.write_back.specs.Left.{state_of}
+use Rattle.write_back.proofs.WriteLemmas.{idle_logs, stays_as}
 use Rattle.write_back.proofs.VolumeLemmas.{cleaned_asks, cleaned_costs, cleaned_steps, goes_over, uncleaned_costs, uncleaned_steps}
 use Rattle.write_back.proofs.volume.WriteBack.idle_up.Goals as goal
 
-pub returns-then-len-self-clause-was : goal.returns-then-len-self-clause-was
-returns-then-len-self-clause-was g c = c.checkpoint_if_due.ensures.serves.was c.args.self.now.dirty.order
+pub returns-then-len-self-clause-keeps : goal.returns-then-len-self-clause-keeps
+returns-then-len-self-clause-keeps g c = c.checkpoint_if_due.ensures.serves.keeps
 
 pub returns-then-len-self-clause-steps : goal.returns-then-len-self-clause-steps
 returns-then-len-self-clause-steps g c =
@@ -43,24 +42,18 @@ returns-in-Ok-clause-asks g c = cleaned_asks (state_of c.args.self.now) (state_o
 
 pub returns-in-Err-clause-costs : goal.returns-in-Err-clause-costs
 returns-in-Err-clause-costs g c = uncleaned_costs (state_of c.args.self.now) (state_of c.write_oldest_back.new.self) (g.M.Media.state c.args.media.now) (g.M.Media.state c.write_oldest_back.new.media) c.in-Err.error
-    (goes_over c.args.self.now c.requires.left.mode (search rules)) c.in-Err.ensures.writes (λ up. ap state_of (c.in-Err.ensures.same up))
+    (goes_over c.args.self.now c.requires.left.mode (search rules)) c.in-Err.ensures.writes (λ up. stays_as Idles c.args.self.now c.write_oldest_back.new.self c.in-Err.ensures.steps.goes.told (c.in-Err.ensures.same up) (c.in-Err.ensures.held up) (idle_logs (told_of c.args.self.now.disk).ack))
 
 pub returns-in-Err-clause-asks : goal.returns-in-Err-clause-asks
 returns-in-Err-clause-asks g c = cleaned_asks (state_of c.args.self.now) (state_of c.write_oldest_back.new.self) (g.M.Media.state c.args.media.now) (g.M.Media.state c.write_oldest_back.new.media) (Err c.in-Err.error)
     (goes_over c.args.self.now c.requires.left.mode (search rules)) c.write_oldest_back.ensures.flushes
 
-pub returns-in-Ok-clause-was : goal.returns-in-Ok-clause-was
-returns-in-Ok-clause-was g c = λ base stand.
-    let after = (g.M.Media.state c.write_oldest_back.new.media).contents in
-    let still = subst (λ (t : Told). StandFor (ImageIs t) after base) (sym c.write_oldest_back.ensures.steps.goes.told) (c.write_oldest_back.ensures.stands base stand) in
-    answered_same Idles (state_of c.args.self.now) (state_of c.write_oldest_back.new.self) after base refl refl still Cleaned refl tt
+pub returns-in-Ok-clause-keeps : goal.returns-in-Ok-clause-keeps
+returns-in-Ok-clause-keeps g c = c.write_oldest_back.ensures.keeps
 
 pub returns-in-Ok-clause-costs : goal.returns-in-Ok-clause-costs
 returns-in-Ok-clause-costs g c = cleaned_costs (state_of c.args.self.now) (state_of c.write_oldest_back.new.self) (g.M.Media.state c.args.media.now) (g.M.Media.state c.write_oldest_back.new.media)
     (goes_over c.args.self.now c.requires.left.mode (search rules)) c.in-Ok.ensures.table (c.in-Ok.ensures.held c.in-Ok.ensures.steps.goes.up) c.in-Ok.ensures.writes
 
-pub returns-in-Err-clause-was : goal.returns-in-Err-clause-was
-returns-in-Err-clause-was g c = λ base stand.
-    let after = (g.M.Media.state c.write_oldest_back.new.media).contents in
-    let still = subst (λ (t : Told). StandFor (ImageIs t) after base) (sym c.write_oldest_back.ensures.steps.goes.told) (c.write_oldest_back.ensures.stands base stand) in
-    refused_same Idles (state_of c.args.self.now) (state_of c.write_oldest_back.new.self) after base refl refl still c.in-Err.error
+pub returns-in-Err-clause-keeps : goal.returns-in-Err-clause-keeps
+returns-in-Err-clause-keeps g c = c.write_oldest_back.ensures.keeps

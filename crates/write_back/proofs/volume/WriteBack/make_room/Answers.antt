@@ -1,9 +1,10 @@
-use Rattle.std.proofs.Common.{◌≡◌, Bool, true, cond, nat_le, length, inl, sym, subst, ap, ◌∙◌, arith}
+use Rattle.std.proofs.Common.{◌≡◌, Bool, true, cond, nat_le, length, inl, refl, sym, subst, ap, ◌∙◌, arith}
 use Rattle.std.proofs.lemmas.Result.{on_ok_weaker}
 use Rattle.std.proofs.lemmas.Bool.{both_ways}
 use Rattle.std.proofs.lemmas.Bool.Decides.{nat_tests}
 use Rattle.ft_base.specs.Table.{is_full, last_size, without_last}
 use Rattle.cached_disk.specs.Kept.{WritesDisk}
+use Rattle.cached_disk.proofs.ReadLemmas.{stays_same}
 use Rattle.write_back.specs.Left.{state_of}
 use Rattle.write_back.specs.Writing.{flushes_made}
 use Rattle.write_back.proofs.WriteLemmas.{full_is, none_back, room_left, room_there}
@@ -59,3 +60,9 @@ returns-clause-there g c = λ not.
     let n = v.disk.options.geometry in
     let many : nat_le n.c (length v.dirty.order) ≡ true = grind (arith, nat_tests) in
     absurd (both_ways (is_full n.c c.args.group (state_of v).table) not (full_is n.p n.c c.args.group v.dirty.order _ (sym c.if-has.ensures) many))
+
+pub returns-then-has-clause-keeps : goal.returns-then-has-clause-keeps
+returns-then-has-clause-keeps g c = let old = (g.M.Media.state c.args.media.now).contents in stays_same c.args.self.now.disk c.args.self.now.disk old old refl refl
+
+pub returns-then-len-c-clause-keeps : goal.returns-then-len-c-clause-keeps
+returns-then-len-c-clause-keeps g c = let old = (g.M.Media.state c.args.media.now).contents in stays_same c.args.self.now.disk c.args.self.now.disk old old refl refl

@@ -1,7 +1,5 @@
-use Rattle.std.proofs.Common.{Ok, Err, ap, subst}
+use Rattle.std.proofs.Common.{Ok, Err}
 use Rattle.ft_base.specs.declared.told.Mode.TheVariants.{Back}
-use Rattle.ft_volume.specs.declared.options.Options.{Options}
-use Rattle.ssc.specs.Opened.{IsLoadedFrom}
 use Rattle.cached_disk.specs.Opened.{OpensDisk}
 use Rattle.cached_disk.proofs.SealLemmas.{opens_made, since_made}
 use Rattle.write_back.proofs.OpenLemmas.{sealed_left, sealed_opened}
@@ -22,6 +20,16 @@ returns-in-Ok-seal-clause-owns g c =
     let made = c.in_ok-loaded.ensures.made in
     let opens : OpensDisk Back c.args.options.now before after (Ok c.in-Ok-seal.disk) = opens_made c.args.options.now Back loaded made before now after (Ok c.in-Ok-seal.disk) c.in_ok-loaded.ensures.loaded c.requires.agrees c.in-Ok-seal.ensures.opens in
     sealed_left loaded c.args.options.now made.0 c.in-Ok-seal.disk c.in-Ok.dirty c.in-Ok.ensures c.in-Ok-seal.ensures.entries before after opens
+
+pub returns-in-Ok-seal-clause-owes : goal.returns-in-Ok-seal-clause-owes
+returns-in-Ok-seal-clause-owes g c =
+    let before = g.R.Media.state c.args.rig.now in
+    let now = g.R.Media.state c.load.new.media in
+    let after = g.R.Media.state c.seal.new.media in
+    let loaded = c.in_ok-loaded.loaded in
+    let made = c.in_ok-loaded.ensures.made in
+    let opens : OpensDisk Back c.args.options.now before after (Ok c.in-Ok-seal.disk) = opens_made c.args.options.now Back loaded made before now after (Ok c.in-Ok-seal.disk) c.in_ok-loaded.ensures.loaded c.requires.agrees c.in-Ok-seal.ensures.opens in
+    opens.owes
 
 pub returns-in-Ok-seal-clause-opened : goal.returns-in-Ok-seal-clause-opened
 returns-in-Ok-seal-clause-opened g c =

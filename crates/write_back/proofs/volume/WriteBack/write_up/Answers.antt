@@ -1,28 +1,29 @@
-use Rattle.std.proofs.Common.{◌≡◌, ◌≤◌, ◌-◌, ◌/◌, ℕ, Result, Ok, Err, refl, sym, ap, ◌∙◌, subst, rules, arith}
-use Rattle.std.proofs.lemmas.Result.{on_err_weaker, on_ok_weaker}
+use Rattle.std.proofs.Common.{◌≡◌, ◌≤◌, ◌+◌, ◌-◌, ◌/◌, ◌||◌, ℕ, length, inl, Result, Ok, Err, refl, sym, ap, ◌∙◌, subst, rules, arith}
+use Rattle.std.proofs.lemmas.Result.{on_err_weaker}
 use Rattle.std.specs.FinMap.{get}
 use Rattle.std.specs.Option.{is_some}
-use Rattle.ft_base.specs.Layout.{log_pages}
+use Rattle.std.proofs.lemmas.Bool.{false≢true}
+use Rattle.ft_base.specs.Layout.{log_pages, page_records}
+use Rattle.ft_base.specs.declared.geometry.Geometry.{Geometry}
 use Rattle.ft_base.specs.Table.{is_full}
 use Rattle.ft_base.specs.Told.{Told}
 use Rattle.ft_media.specs.Media.{program_counted}
 use Rattle.ft_media.specs.State.{State}
-use Rattle.ft_volume.specs.Opening.{ImageIs}
-use Rattle.ft_volume.specs.Volume.{StaysUp, Writes, dirty_lbas}
-use Rattle.ft_volume.specs.Standing.{StandFor}
+use Rattle.ft_volume.specs.Volume.{StaysUp, VolumeState, Writes, dirty_lbas}
 use Rattle.ft_volume.specs.declared.volume.VolumeError.{VolumeError}
 use Rattle.ft_volume.specs.declared.volume.VolumeError.TheVariants.{OutOfMemory}
 use Rattle.cache_model.specs.Records.{Entries}
 use Rattle.merge_engine.specs.declared.parts.Parts.{Parts}
-use Rattle.ssc.specs.CacheState.{log_room, open_room}
-use Rattle.cached_disk.specs.Kept.{waiting_in, WritesDisk}
-use Rattle.cached_disk.proofs.CallLemmas.{refused_costs, refused_same, same_up}
+use Rattle.ssc.specs.CacheState.{geometry_of, log_room, open_room, pending}
+use Rattle.cached_disk.specs.Kept.{KeepsOwed, waiting_in, WritesDisk}
+use Rattle.cached_disk.proofs.CallLemmas.{refused_costs, refused_kept, same_up}
+use Rattle.cached_disk.proofs.ReadLemmas.{reserved_owes}
 use Rattle.cached_disk.proofs.OpenedLemmas.{reserved_tells}
 use Rattle.write_back.specs.declared.volume.WriteBack.{WriteBack}
 use Rattle.write_back.specs.Left.{state_of}
 use Rattle.write_back.specs.Writing.{backs_made, flushes_made, room_made}
-use Rattle.ft_volume.proofs.UpLemmas.{goes_then, programs_then, was_from}
-use Rattle.write_back.proofs.WriteLemmas.{costs_refused, costs_then, flushes_back, programs_one, reserved, reserved_left, room_up}
+use Rattle.ft_volume.proofs.UpLemmas.{goes_then, programs_then}
+use Rattle.write_back.proofs.WriteLemmas.{costs_refused, costs_then, does_then, flushes_back, on_ok_if, reserved, reserved_left, room_up, stays_as}
 use Rattle.write_back.proofs.volume.WriteBack.write_up.Goals as goal
 
 pub make_room-requires-clause-left : goal.make_room-requires-clause-left
@@ -53,18 +54,33 @@ returns-then-is_err-clause-costs g c =
     refused_costs call (state_of v) (state_of w) (Unit {0}) (g.M.Media.state c.args.media.now) (g.M.Media.state c.args.media.now) OutOfMemory
     (same_up call (state_of v) (state_of w) (reserved_tells v.dirty.order v.disk c.reserve.new.self taken.parts taken.entries taken.stopped)) (omega arith) refl
 
+pub returns-then-is_err-clause-does : goal.returns-then-is_err-clause-does
+returns-then-is_err-clause-does g c = λ owed owes.
+    let v = c.args.self.now in
+    let old = (g.M.Media.state c.args.media.now).contents in
+    let taken = c.reserve.ensures in
+    let w = reserved v c.reserve.new.self taken.entries taken.stopped in
+    let there = reserved_owes v.disk c.reserve.new.self (record { geometry = taken.same; holds = taken.holds; pending = taken.pending; stopped = taken.stopped }) old old refl owed owes in
+    (owed, there, λ base stand. refused_kept (Writes c.args.lba c.args.block.now) (state_of v) (state_of w) old owed owed base (inl (refl, stand)) OutOfMemory (λ is. ap (λ b. v.disk.down || b) taken.stopped ∙ c.requires.may.up))
+
 pub returns-then-is_err-clause-asks : goal.returns-then-is_err-clause-asks
-returns-then-is_err-clause-asks g c = record { flushes = omega arith; found = λ none. absurd none; two_programs = tt }
+returns-then-is_err-clause-asks g c = record { flushes = omega arith; found = λ none. absurd none; two_programs = tt; one_program = tt }
 
 -- room was made
 
-pub returns-in-Ok-clause-was : goal.returns-in-Ok-clause-was
-returns-in-Ok-clause-was g c = λ base stand.
+pub returns-in-Ok-clause-does : goal.returns-in-Ok-clause-does
+returns-in-Ok-clause-does g c = λ owed owes.
     let v = c.args.self.now in
+    let old = (g.M.Media.state c.args.media.now).contents in
+    let taken = c.reserve.ensures in
+    let there = reserved_owes v.disk c.reserve.new.self (record { geometry = taken.same; holds = taken.holds; pending = taken.pending; stopped = taken.stopped }) old old refl owed owes in
     let mid = c.make_room.new.self in
     let between = (g.M.Media.state c.make_room.new.media).contents in
-    was_from ImageIs (Writes c.args.lba c.args.block.now) (state_of v) (state_of mid) (state_of c.put_dirty.new.self) (g.M.Media.state c.put_dirty.new.media).contents c.put_dirty.result base refl
-    (c.put_dirty.ensures.was base (subst (λ (t : Told). StandFor (ImageIs t) between base) (sym c.make_room.ensures.steps.goes.told) (c.make_room.ensures.stands base stand)))
+    let new = c.put_dirty.new.self in
+    let after = (g.M.Media.state c.put_dirty.new.media).contents in
+    let first = c.make_room.ensures.keeps owed there in
+    let then = c.put_dirty.ensures.does first.0 first.1 in
+    (then.0, then.1, λ base stand. does_then c.args.lba c.args.block.now (state_of v) (state_of mid) (state_of new) between after c.put_dirty.result owed first.0 then.0 base c.make_room.ensures.steps.goes.told c.in-Ok.ensures.steps.goes.up (first.2 base stand) then.2)
 
 pub returns-in-Ok-clause-steps : goal.returns-in-Ok-clause-steps
 returns-in-Ok-clause-steps g c =
@@ -108,26 +124,43 @@ returns-in-Ok-clause-asks g c =
     record {
       flushes = omega (arith, most, same, made);
       found = λ none. absurd none;
-      two_programs = on_ok_weaker c.put_dirty.result (λ two room.
-          let there = c.make_room.ensures.there (full ∙ room.table) in
+      two_programs = on_ok_if c.put_dirty.result (λ room. put.costs.two_programs (ap (λ (t : Told). t.ack) c.make_room.ensures.steps.goes.told ∙ room.ack)) (λ room two.
+          let there = c.make_room.ensures.there (full ∙ room.room.table) in
           let block = ap (λ (w : WriteBack). open_room w.disk.cache) there.0 ∙ ap (λ (p : Parts). p.log_blocks.room) taken.parts in
           let log = ap (λ (w : WriteBack). log_room w.disk.cache) there.0 ∙ ap (λ (p : Parts). log_pages p.geometry - p.log.next) taken.parts in
           subst (λ (s : State). (g.M.Media.state c.put_dirty.new.media).counts ≡ program_counted (program_counted s.counts)) there.1
-          (two (subst (λ (k : ℕ). 1 ≤ k) (sym block) room.block) (subst (λ (k : ℕ). 1 ≤ k) (sym log) room.log))) put.costs.two_programs;
+          (two (subst (λ (k : ℕ). 1 ≤ k) (sym block) room.room.block) (subst (λ (k : ℕ). 1 ≤ k) (sym log) room.log)));
+      one_program = on_ok_if c.put_dirty.result (λ room. put.costs.one_program (ap (λ (t : Told). t.ack) c.make_room.ensures.steps.goes.told ∙ room.ack)) (λ room one.
+          let there = c.make_room.ensures.there (full ∙ room.room.table) in
+          let block = ap (λ (w : WriteBack). open_room w.disk.cache) there.0 ∙ ap (λ (p : Parts). p.log_blocks.room) taken.parts in
+          let buffered = ap (λ (w : WriteBack). length (pending w.disk.cache)) there.0 ∙ ap length taken.pending in
+          let own = ap (λ (w : WriteBack). geometry_of w.disk.cache) there.0 ∙ taken.same ∙ c.requires.may.left.disk.own in
+          subst (λ (s : State). (g.M.Media.state c.put_dirty.new.media).counts ≡ program_counted s.counts) there.1
+          (one (subst (λ (k : ℕ). 1 ≤ k) (sym block) room.room.block) (subst (λ (geo : Geometry). length (pending c.make_room.new.self.disk.cache) + 2 ≤ page_records geo) (sym own) (subst (λ (k : ℕ). k + 2 ≤ page_records n) (sym buffered) room.buffered))));
     }
 
 pub returns-in-Ok-clause-programs : goal.returns-in-Ok-clause-programs
 returns-in-Ok-clause-programs g c =
     let v = c.args.self.now in
-    programs_then (g.M.Media.state c.args.media.now) (g.M.Media.state c.make_room.new.media) (g.M.Media.state c.put_dirty.new.media) c.put_dirty.result c.in-Ok.ensures.steps.goes.passes (programs_one (g.M.Media.state c.make_room.new.media) (g.M.Media.state c.put_dirty.new.media) c.put_dirty.result c.put_dirty.ensures.costs.programs)
+    programs_then (g.M.Media.state c.args.media.now) (g.M.Media.state c.make_room.new.media) (g.M.Media.state c.put_dirty.new.media) c.put_dirty.result c.in-Ok.ensures.steps.goes.passes c.put_dirty.ensures.costs.programs
 
 -- the write failed before the cache was asked
 
-pub returns-in-Err-clause-was : goal.returns-in-Err-clause-was
-returns-in-Err-clause-was g c = λ base stand.
+pub returns-in-Err-clause-does : goal.returns-in-Err-clause-does
+returns-in-Err-clause-does g c = λ owed owes.
     let v = c.args.self.now in
+    let old = (g.M.Media.state c.args.media.now).contents in
     let after = (g.M.Media.state c.make_room.new.media).contents in
-    refused_same (Writes c.args.lba c.args.block.now) (state_of v) (state_of c.make_room.new.self) after base refl refl (subst (λ (t : Told). StandFor (ImageIs t) after base) (sym c.make_room.ensures.steps.goes.told) (c.make_room.ensures.stands base stand)) c.in-Err.error
+    let taken = c.reserve.ensures in
+    let there = reserved_owes v.disk c.reserve.new.self (record { geometry = taken.same; holds = taken.holds; pending = taken.pending; stopped = taken.stopped }) old old refl owed owes in
+    let mid = state_of c.make_room.new.self in
+    let first = c.make_room.ensures.keeps owed there in
+    let goes = c.in-Err.ensures.steps.goes in (
+      first.0,
+      first.1,
+      λ base stand. refused_kept (Writes c.args.lba c.args.block.now) (state_of v) mid after owed first.0 base
+          (subst (λ (t : Told). KeepsOwed t after mid.down owed first.0 base) (sym goes.told) (first.2 base stand)) c.in-Err.error (λ is. goes.memory (ap Err is) (ap (λ b. v.disk.down || b) taken.stopped ∙ c.requires.may.up)),
+    )
 
 pub returns-in-Err-clause-costs : goal.returns-in-Err-clause-costs
 returns-in-Err-clause-costs g c =
@@ -143,7 +176,8 @@ returns-in-Err-clause-costs g c =
     let backs = subst (λ (m : Entries). WritesDisk (backs_made n.c (c.args.lba / n.p) (waiting_in n.p v.dirty.order (dirty_lbas m))) before after refused) taken.entries
     (subst (λ (p : ℕ). WritesDisk (backs_made n.c (c.args.lba / p) now.table) before after refused) c.p.ensures c.in-Err.ensures.writes) in
     costs_refused c.args.lba c.args.block.now (state_of v) (state_of v) (state_of w) before before after c.requires.may.left.mode refl c.in-Err.error backs
-    (λ up. same_up call (state_of v) (state_of w) (ap state_of (c.in-Err.ensures.same up) ∙ reserved_tells v.dirty.order v.disk c.reserve.new.self taken.parts taken.entries taken.stopped) up)
+    (λ up. subst (λ (x : VolumeState). StaysUp call x (state_of w)) (reserved_tells v.dirty.order v.disk c.reserve.new.self taken.parts taken.entries taken.stopped)
+    (stays_as call (reserved v c.reserve.new.self taken.entries taken.stopped) w c.in-Err.ensures.steps.goes.told (c.in-Err.ensures.same up) (c.in-Err.ensures.held up) (λ no. absurd (false≢true (sym no)))))
 
 pub returns-in-Err-clause-asks : goal.returns-in-Err-clause-asks
 returns-in-Err-clause-asks g c =
@@ -154,4 +188,4 @@ returns-in-Err-clause-asks g c =
     let most = c.make_room.ensures.flushes in
     let made = ap (λ (p : ℕ). flushes_made n.c (c.args.lba / p) now.table) c.p.ensures ∙ ap (λ (m : Entries). flushes_made n.c (c.args.lba / n.p) (waiting_in n.p v.dirty.order (dirty_lbas m))) taken.entries
     ∙ flushes_back c.args.lba c.args.block.now (state_of v) (state_of v) (state_of v) (g.M.Media.state c.args.media.now) (g.M.Media.state c.args.media.now) (g.M.Media.state c.args.media.now) c.requires.may.left.mode refl in
-    record { flushes = omega (arith, most, made); found = λ none. absurd none; two_programs = tt }
+    record { flushes = omega (arith, most, made); found = λ none. absurd none; two_programs = tt; one_program = tt }

@@ -1,16 +1,19 @@
+use Rattle.std.specs.List.{list_any}
+use Rattle.cache_model.specs.Cache.{is_write}
+use Rattle.cached_disk.proofs.ReadLemmas.{none_owed}
+use Rattle.write_back.proofs.VolumeLemmas.{back_done}
 use Rattle.std.proofs.lemmas.Result.{on_ok_weaker}
-use Rattle.std.proofs.Common.{ap, length}
+use Rattle.std.proofs.Common.{refl, ap, length}
 use Rattle.ft_volume.specs.Opening.{ImageIs}
 use Rattle.ft_volume.specs.Volume.{Flushes, opened_of}
-use Rattle.ft_volume.proofs.UpLemmas.{asks_refused, asks_through, costs_through, costs_unopened, done_refused, done_through, goes_through}
+use Rattle.ft_volume.proofs.UpLemmas.{asks_refused, asks_through, costs_through, costs_unopened, done_refused, goes_through}
 use Rattle.cached_disk.specs.Kept.{Loads}
 use Rattle.write_back.specs.Left.{state_of}
 use Rattle.write_back.proofs.volume.WriteBackVolume.flush.Goals as goal
 
 pub returns-in-Ok-clause-disk : goal.returns-in-Ok-clause-disk
-returns-in-Ok-clause-disk g c = done_through ImageIs Loads (state_of c.args.self.now) (state_of c.bring_up.new.self) (state_of (record { disk = c.flush.new.self; dirty = c.bring_up.new.self.dirty }))
-    (g.R.Media.state c.args.rig.now) (g.R.Media.state c.bring_up.new.media) (g.R.Media.state c.flush.new.media) tt c.in-Ok.ensures.comes c.flush.result Flushes
-    (c.flush.ensures.serves.was c.bring_up.new.self.dirty.order)
+returns-in-Ok-clause-disk g c = back_done Flushes c.args.self.now c.bring_up.new.self (record { disk = c.flush.new.self; dirty = c.bring_up.new.self.dirty }) (g.R.Media.state c.args.rig.now) (g.R.Media.state c.bring_up.new.media) (g.R.Media.state c.flush.new.media) c.flush.result
+    c.in-Ok.ensures.comes c.bring_up.ensures.owes c.in-Ok.ensures.up refl c.flush.ensures.serves.keeps c.flush.ensures.serves.found (c.flush.ensures.serves.goes c.bring_up.new.self.dirty.order)
 
 pub returns-in-Ok-clause-goes : goal.returns-in-Ok-clause-goes
 returns-in-Ok-clause-goes g c = goes_through ImageIs Loads (state_of c.args.self.now) (state_of c.bring_up.new.self) (state_of (record { disk = c.flush.new.self; dirty = c.bring_up.new.self.dirty }))
@@ -23,7 +26,7 @@ returns-in-Ok-clause-costs g c = λ m has. costs_through ImageIs Loads (state_of
     tt c.in-Ok.ensures.comes c.flush.result Flushes m has (c.flush.ensures.costs c.bring_up.new.self.dirty.order)
 
 pub returns-in-Err-clause-disk : goal.returns-in-Err-clause-disk
-returns-in-Err-clause-disk g c = done_refused ImageIs Loads Flushes (state_of c.args.self.now) (state_of c.bring_up.new.self) (g.R.Media.state c.args.rig.now) (g.R.Media.state c.bring_up.new.media) c.in-Err.error c.in-Err.ensures.comes
+returns-in-Err-clause-disk g c = λ owed owes. (owed, c.bring_up.ensures.owes owed owes, done_refused ImageIs Loads Flushes (state_of c.args.self.now) (state_of c.bring_up.new.self) owed owed (g.R.Media.state c.args.rig.now) (g.R.Media.state c.bring_up.new.media) c.in-Err.error c.in-Err.ensures.comes)
 
 pub returns-in-Ok-clause-asks : goal.returns-in-Ok-clause-asks
 returns-in-Ok-clause-asks g c = λ m has. asks_through ImageIs Loads (state_of c.args.self.now) (state_of c.bring_up.new.self) (state_of (record { disk = c.flush.new.self; dirty = c.bring_up.new.self.dirty })) (g.R.Media.state c.args.rig.now)
@@ -39,3 +42,6 @@ returns-in-Err-clause-costs g c = λ m has. costs_unopened ImageIs Loads (Flushe
 
 pub returns-in-Ok-clause-nothing_buffered : goal.returns-in-Ok-clause-nothing_buffered
 returns-in-Ok-clause-nothing_buffered g c = on_ok_weaker c.flush.result (ap length) c.flush.ensures.nothing_waits
+
+pub returns-in-Ok-clause-nothing_owed : goal.returns-in-Ok-clause-nothing_owed
+returns-in-Ok-clause-nothing_owed g c = on_ok_weaker c.flush.result (λ none owed owes. none_owed c.flush.new.self (g.R.Media.state c.flush.new.media).contents owed (ap (list_any is_write) none) owes) c.flush.ensures.nothing_waits

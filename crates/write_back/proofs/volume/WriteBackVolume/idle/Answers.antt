@@ -1,22 +1,23 @@
+use Rattle.write_back.proofs.VolumeLemmas.{always_ok, back_done}
 use Rattle.cached_disk.proofs.CallLemmas.{if_ok_also}
-use Rattle.std.proofs.Common.{◌∙◌}
+use Rattle.std.proofs.Common.{refl, ◌∙◌}
 use Rattle.ft_volume.specs.Opening.{ImageIs}
 use Rattle.ft_volume.specs.Volume.{Idles, opened_of}
-use Rattle.ft_volume.proofs.UpLemmas.{asks_refused, asks_through, costs_through, costs_unopened, done_refused, done_through, goes_through}
+use Rattle.ft_volume.proofs.UpLemmas.{asks_refused, asks_through, costs_through, costs_unopened, done_refused, goes_through}
 use Rattle.cached_disk.specs.Kept.{Loads}
 use Rattle.write_back.specs.Left.{state_of}
 use Rattle.write_back.proofs.volume.WriteBackVolume.idle.Goals as goal
 
 pub returns-in-Ok-clause-disk : goal.returns-in-Ok-clause-disk
-returns-in-Ok-clause-disk g c = done_through ImageIs Loads (state_of c.args.self.now) (state_of c.bring_up.new.self) (state_of c.idle_up.new.self) (g.R.Media.state c.args.rig.now)
-    (g.R.Media.state c.bring_up.new.media) (g.R.Media.state c.idle_up.new.media) tt c.in-Ok.ensures.comes c.idle_up.result Idles c.idle_up.ensures.was
+returns-in-Ok-clause-disk g c = back_done Idles c.args.self.now c.bring_up.new.self c.idle_up.new.self (g.R.Media.state c.args.rig.now) (g.R.Media.state c.bring_up.new.media) (g.R.Media.state c.idle_up.new.media) c.idle_up.result
+    c.in-Ok.ensures.comes c.bring_up.ensures.owes c.in-Ok.ensures.up refl c.idle_up.ensures.keeps (always_ok c.idle_up.result (λ owed owes base stand. tt)) c.idle_up.ensures.steps.goes
 
 pub returns-in-Ok-clause-goes : goal.returns-in-Ok-clause-goes
 returns-in-Ok-clause-goes g c = goes_through ImageIs Loads (state_of c.args.self.now) (state_of c.bring_up.new.self) (state_of c.idle_up.new.self) (g.R.Media.state c.args.rig.now)
     (g.R.Media.state c.bring_up.new.media) (g.R.Media.state c.idle_up.new.media) tt c.in-Ok.ensures.comes c.idle_up.result c.idle_up.ensures.steps.goes
 
 pub returns-in-Err-clause-disk : goal.returns-in-Err-clause-disk
-returns-in-Err-clause-disk g c = done_refused ImageIs Loads Idles (state_of c.args.self.now) (state_of c.bring_up.new.self) (g.R.Media.state c.args.rig.now) (g.R.Media.state c.bring_up.new.media) c.in-Err.error c.in-Err.ensures.comes
+returns-in-Err-clause-disk g c = λ owed owes. (owed, c.bring_up.ensures.owes owed owes, done_refused ImageIs Loads Idles (state_of c.args.self.now) (state_of c.bring_up.new.self) owed owed (g.R.Media.state c.args.rig.now) (g.R.Media.state c.bring_up.new.media) c.in-Err.error c.in-Err.ensures.comes)
 
 pub returns-in-Ok-clause-asks : goal.returns-in-Ok-clause-asks
 returns-in-Ok-clause-asks g c = λ m has. asks_through ImageIs Loads (state_of c.args.self.now) (state_of c.bring_up.new.self) (state_of c.idle_up.new.self) (g.R.Media.state c.args.rig.now)

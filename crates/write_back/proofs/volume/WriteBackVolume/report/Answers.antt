@@ -1,11 +1,15 @@
+use Rattle.std.specs.List.{list_any}
+use Rattle.cache_model.specs.Cache.{is_write}
+use Rattle.cached_disk.proofs.ReadLemmas.{none_owed}
+use Rattle.write_back.proofs.VolumeLemmas.{back_done}
 use Rattle.std.proofs.lemmas.Result.{on_ok_weaker}
-use Rattle.std.proofs.Common.{subst, ap, length}
+use Rattle.std.proofs.Common.{refl, subst, ap, length}
 use Rattle.std.specs.Prelude.{IfOk}
 use Rattle.ft_base.specs.Told.{Told}
 use Rattle.ft_volume.specs.Opening.{ImageIs}
 use Rattle.ft_volume.specs.Volume.{Reports, opened_of}
 use Rattle.ft_volume.specs.Reported.{IsReport}
-use Rattle.ft_volume.proofs.UpLemmas.{asks_refused, asks_through, costs_through, costs_unopened, done_refused, done_through, goes_through}
+use Rattle.ft_volume.proofs.UpLemmas.{asks_refused, asks_through, costs_through, costs_unopened, done_refused, goes_through}
 use Rattle.cache_model.specs.Records.{Entries}
 use Rattle.ssc.specs.CacheState.{entries_of}
 use Rattle.cached_disk.specs.Kept.{Loads, told_of}
@@ -14,9 +18,8 @@ use Rattle.write_back.specs.Left.{state_of}
 use Rattle.write_back.proofs.volume.WriteBackVolume.report.Goals as goal
 
 pub returns-in-Ok-clause-disk : goal.returns-in-Ok-clause-disk
-returns-in-Ok-clause-disk g c = done_through ImageIs Loads (state_of c.args.self.now) (state_of c.bring_up.new.self) (state_of (record { disk = c.report.new.self; dirty = c.bring_up.new.self.dirty }))
-    (g.R.Media.state c.args.rig.now) (g.R.Media.state c.bring_up.new.media) (g.R.Media.state c.report.new.media) tt c.in-Ok.ensures.comes c.report.result Reports
-    (c.report.ensures.serves.was c.bring_up.new.self.dirty.order)
+returns-in-Ok-clause-disk g c = back_done Reports c.args.self.now c.bring_up.new.self (record { disk = c.report.new.self; dirty = c.bring_up.new.self.dirty }) (g.R.Media.state c.args.rig.now) (g.R.Media.state c.bring_up.new.media) (g.R.Media.state c.report.new.media) c.report.result
+    c.in-Ok.ensures.comes c.bring_up.ensures.owes c.in-Ok.ensures.up refl c.report.ensures.serves.keeps c.report.ensures.serves.found (c.report.ensures.serves.goes c.bring_up.new.self.dirty.order)
 
 pub returns-in-Ok-clause-goes : goal.returns-in-Ok-clause-goes
 returns-in-Ok-clause-goes g c = goes_through ImageIs Loads (state_of c.args.self.now) (state_of c.bring_up.new.self) (state_of (record { disk = c.report.new.self; dirty = c.bring_up.new.self.dirty }))
@@ -36,7 +39,7 @@ returns-in-Ok-clause-report g c =
     (report_of c.report.result (told_of u) page (entries_of c.report.new.self.cache) c.report.ensures.loads c.report.ensures.report)
 
 pub returns-in-Err-clause-disk : goal.returns-in-Err-clause-disk
-returns-in-Err-clause-disk g c = done_refused ImageIs Loads Reports (state_of c.args.self.now) (state_of c.bring_up.new.self) (g.R.Media.state c.args.rig.now) (g.R.Media.state c.bring_up.new.media) c.in-Err.error c.in-Err.ensures.comes
+returns-in-Err-clause-disk g c = λ owed owes. (owed, c.bring_up.ensures.owes owed owes, done_refused ImageIs Loads Reports (state_of c.args.self.now) (state_of c.bring_up.new.self) owed owed (g.R.Media.state c.args.rig.now) (g.R.Media.state c.bring_up.new.media) c.in-Err.error c.in-Err.ensures.comes)
 
 pub returns-in-Ok-clause-asks : goal.returns-in-Ok-clause-asks
 returns-in-Ok-clause-asks g c = λ m has. asks_through ImageIs Loads (state_of c.args.self.now) (state_of c.bring_up.new.self) (state_of (record { disk = c.report.new.self; dirty = c.bring_up.new.self.dirty })) (g.R.Media.state c.args.rig.now)
@@ -52,3 +55,6 @@ returns-in-Err-clause-costs g c = λ m has. costs_unopened ImageIs Loads (Report
 
 pub returns-in-Ok-clause-nothing_buffered : goal.returns-in-Ok-clause-nothing_buffered
 returns-in-Ok-clause-nothing_buffered g c = on_ok_weaker c.report.result (λ up. ap length (c.report.ensures.nothing_waits up)) (c.report.ensures.serves.goes c.bring_up.new.self.dirty.order).up
+
+pub returns-in-Ok-clause-nothing_owed : goal.returns-in-Ok-clause-nothing_owed
+returns-in-Ok-clause-nothing_owed g c = on_ok_weaker c.report.result (λ up owed owes. none_owed c.report.new.self (g.R.Media.state c.report.new.media).contents owed (ap (list_any is_write) (c.report.ensures.nothing_waits up)) owes) (c.report.ensures.serves.goes c.bring_up.new.self.dirty.order).up

@@ -3,14 +3,12 @@ use Rattle.std.specs.FinMap.{get}
 use Rattle.std.specs.Option.{is_some}
 use Rattle.std.proofs.lemmas.Bool.{false≢true}
 use Rattle.ft_base.proofs.Images.{newest_image, with_newest}
-use Rattle.cache_model.specs.Cache.{Inserted, written_clean}
 use Rattle.ssc.specs.CacheState.{entries_of}
-use Rattle.ssc.proofs.LosingLemmas.{pends_buffered}
 use Rattle.ssc.specs.declared.error.SscError.TheVariants.{OutOfMemory}
 use Rattle.ssc.specs.Errors.{ssc_failed, ssc_lost}
 use Rattle.cached_disk.specs.Kept.{state_in, told_of}
 use Rattle.cached_disk.proofs.CallLemmas.{gives_up, goes_down, goes_driven}
-use Rattle.cached_disk.proofs.HeldLemmas.{is_up, stopped_down}
+use Rattle.cached_disk.proofs.HeldLemmas.{is_up, stopped_down, through_none}
 use Rattle.cached_disk.proofs.ReadLemmas.{cut_left, cut_stands, drove_held, put_held, put_left, put_stands, still_up}
 use Rattle.write_through.specs.Left.{state_of}
 use Rattle.write_through.proofs.PutLemmas.{absent_of}
@@ -37,7 +35,7 @@ returns-in-Ok-clause-steps g c =
     let absent = absent_of v.cache before.contents s holds c.args.lba c.requires.absent in
     record {
       left = record {
-        disk = put_left v k before.contents after.contents s by c.args.lba c.args.block.now absent c.requires.newest (c.in-Ok.ensures.done s holds) (pends_buffered v.cache k before.contents after.contents s holds c.args.lba (written_clean c.args.lba c.args.block.now) (Inserted c.args.lba) (c.in-Ok.ensures.at_absent s holds absent));
+        disk = put_left v k before.contents after.contents s by c.args.lba c.args.block.now absent c.requires.newest (c.in-Ok.ensures.at_absent s holds absent);
         mode = c.requires.may.left.mode;
       };
       goes = goes_driven tt before after (state_of c.args.self.now) (state_in [] (record v { cache = k })) refl (still_up v k c.requires.may.up c.in-Ok.ensures.runs.stopped) c.in-Ok.ensures.runs.drives;
@@ -55,7 +53,7 @@ returns-in-Ok-clause-stands g c =
     let holds = (left.up c.requires.may.up).holds in
     let by = drove_held v k before after (ssc_failed c.write_clean.result) (ssc_lost c.write_clean.result) left c.requires.may.up c.write_clean.ensures.runs.geometry c.write_clean.ensures.runs.drives in
     let absent = absent_of v.cache before.contents s holds c.args.lba c.requires.absent in
-    put_stands v k before.contents after.contents s by c.args.lba c.args.block.now absent c.requires.newest (c.in-Ok.ensures.done s holds) (pends_buffered v.cache k before.contents after.contents s holds c.args.lba (written_clean c.args.lba c.args.block.now) (Inserted c.args.lba) (c.in-Ok.ensures.at_absent s holds absent))
+    put_stands v k before.contents after.contents s by c.args.lba c.args.block.now absent c.requires.newest (c.in-Ok.ensures.at_absent s holds absent) (through_none v c.requires.may.left.mode by.is.may_undo)
 
 pub returns-in-Ok-clause-held : goal.returns-in-Ok-clause-held
 returns-in-Ok-clause-held g c =
@@ -108,7 +106,7 @@ returns-in-Err-clause-stands g c =
     let holds = (left.up c.requires.may.up).holds in
     let by = drove_held v k before after (ssc_failed c.write_clean.result) (ssc_lost c.write_clean.result) left c.requires.may.up c.write_clean.ensures.runs.geometry c.write_clean.ensures.runs.drives in
     let absent = absent_of v.cache before.contents s holds c.args.lba c.requires.absent in
-    cut_stands v k before.contents after.contents s by c.args.lba c.args.block.now absent c.requires.newest (c.write_clean.ensures.images s by.is.holds (with_newest after.contents) (newest_image after.contents))
+    cut_stands v k before.contents after.contents s by c.args.lba c.args.block.now absent c.requires.newest (c.write_clean.ensures.images s by.is.holds (with_newest after.contents) (newest_image after.contents)) (through_none v c.requires.may.left.mode by.is.may_undo)
 
 pub returns-in-Ok-clause-no_disk : goal.returns-in-Ok-clause-no_disk
 returns-in-Ok-clause-no_disk g c = let drives = c.write_clean.ensures.runs.drives in record { disk_reads = drives.disk_reads; disk_writes = drives.disk_writes; disk_flushes = drives.disk_flushes }

@@ -20,7 +20,7 @@ returns-in-Ok-clause-steps g c =
     let to = c.put_block.ensures in
     record {
       left = record {
-        disk = put_left c.args.self.now.disk old new c.requires.may.left.disk c.requires.may.up c.args.lba c.args.block.now to.values c.requires.absent to.passes.shape (c.in-Ok.ensures.flash.stays refl) c.in-Ok.ensures.ok;
+        disk = put_left c.args.self.now.disk old new c.requires.may.left.disk c.requires.may.up c.args.lba c.args.block.now to.values c.requires.absent to.passes.shape c.requires.may.left.mode (c.in-Ok.ensures.flash.stays refl) c.in-Ok.ensures.ok;
         mode = c.requires.may.left.mode;
       };
       goes = search rules;
@@ -32,7 +32,7 @@ returns-in-Ok-clause-stands g c = λ d stand.
     let old = (g.M.Media.state c.args.media.now).contents in
     let new = (g.M.Media.state c.put_block.new.media).contents in
     let to = c.put_block.ensures in
-    put_stands c.args.self.now.disk old new c.requires.may.left.disk c.requires.may.up c.args.lba c.args.block.now to.values c.requires.absent to.passes.shape to.flash.page c.requires.may.lba d stand c.in-Ok.ensures.ok
+    put_stands c.args.self.now.disk old new c.requires.may.left.disk c.requires.may.up c.args.lba c.args.block.now to.values c.requires.absent to.passes.shape c.requires.may.left.mode to.flash.page c.requires.may.lba d stand c.in-Ok.ensures.ok
 
 pub returns-in-Ok-clause-was : goal.returns-in-Ok-clause-was
 returns-in-Ok-clause-was g c = λ d stand.
@@ -41,7 +41,7 @@ returns-in-Ok-clause-was g c = λ d stand.
     let new = (g.M.Media.state c.put_block.new.media).contents in
     let to = c.put_block.ensures in
     answered_write c.args.lba c.args.block.now v v new d refl refl
-    (put_stands c.args.self.now.disk old new c.requires.may.left.disk c.requires.may.up c.args.lba c.args.block.now to.values c.requires.absent to.passes.shape to.flash.page c.requires.may.lba d stand c.in-Ok.ensures.ok)
+    (put_stands c.args.self.now.disk old new c.requires.may.left.disk c.requires.may.up c.args.lba c.args.block.now to.values c.requires.absent to.passes.shape c.requires.may.left.mode to.flash.page c.requires.may.lba d stand c.in-Ok.ensures.ok)
 
 pub returns-in-Ok-clause-newest : goal.returns-in-Ok-clause-newest
 returns-in-Ok-clause-newest g c = put_newest c.args.lba c.args.block.now (g.M.Media.state c.args.media.now).contents (g.M.Media.state c.put_block.new.media).contents c.in-Ok.ensures.ok
@@ -54,7 +54,7 @@ returns-in-Err-Failed-clause-steps g c =
     let new = (g.M.Media.state c.put_block.new.media).contents in
     let to = c.put_block.ensures in
     record {
-      left = record { disk = put_down c.args.self.now.disk old new c.requires.may.left.disk c.requires.may.up c.args.lba c.args.block.now to.values c.requires.absent to.passes.shape to.flash.page; mode = c.requires.may.left.mode };
+      left = record { disk = put_down c.args.self.now.disk old new c.requires.may.left.disk c.requires.may.up c.args.lba c.args.block.now to.values c.requires.absent to.passes.shape c.requires.may.left.mode to.flash.page; mode = c.requires.may.left.mode };
       goes = search rules;
       within = search rules;
     }
@@ -66,7 +66,7 @@ returns-in-Err-Failed-clause-was g c = λ d stand.
     let old = (g.M.Media.state c.args.media.now).contents in
     let new = (g.M.Media.state c.put_block.new.media).contents in
     let to = c.put_block.ensures in
-    put_failed v old new c.requires.may.left.disk c.requires.may.up c.args.lba c.args.block.now to.values c.requires.absent to.passes.shape to.flash.page c.requires.may.lba d stand (state_of c.args.self.now) (state_of w) refl refl refl refl
+    put_failed v old new c.requires.may.left.disk c.requires.may.up c.args.lba c.args.block.now to.values c.requires.absent to.passes.shape c.requires.may.left.mode to.flash.page c.requires.may.lba d stand (state_of c.args.self.now) (state_of w) refl refl refl refl
 
 -- power was lost
 
@@ -76,7 +76,7 @@ returns-in-Err-PowerLost-clause-steps g c =
     let new = (g.M.Media.state c.put_block.new.media).contents in
     let to = c.put_block.ensures in
     record {
-      left = record { disk = put_down c.args.self.now.disk old new c.requires.may.left.disk c.requires.may.up c.args.lba c.args.block.now to.values c.requires.absent to.passes.shape to.flash.page; mode = c.requires.may.left.mode };
+      left = record { disk = put_down c.args.self.now.disk old new c.requires.may.left.disk c.requires.may.up c.args.lba c.args.block.now to.values c.requires.absent to.passes.shape c.requires.may.left.mode to.flash.page; mode = c.requires.may.left.mode };
       goes = search rules;
       within = search rules;
     }
@@ -88,7 +88,7 @@ returns-in-Err-PowerLost-clause-was g c = λ d stand.
     let old = (g.M.Media.state c.args.media.now).contents in
     let new = (g.M.Media.state c.put_block.new.media).contents in
     let to = c.put_block.ensures in
-    put_lost v old new c.requires.may.left.disk c.requires.may.up c.args.lba c.args.block.now to.values c.requires.absent to.passes.shape to.flash.page c.requires.may.lba d stand (state_of c.args.self.now) (state_of w) refl refl refl refl
+    put_lost v old new c.requires.may.left.disk c.requires.may.up c.args.lba c.args.block.now to.values c.requires.absent to.passes.shape c.requires.may.left.mode to.flash.page c.requires.may.lba d stand (state_of c.args.self.now) (state_of w) refl refl refl refl
     (to.crash (ap lost (c.in-Err-PowerLost.is ∙ ap Err c.in-Err-PowerLost.field-0-is)))
 
 -- there was no memory, and nothing has changed

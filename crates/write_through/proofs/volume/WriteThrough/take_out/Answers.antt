@@ -5,8 +5,8 @@ use Rattle.ssc.specs.declared.error.SscError.TheVariants.{OutOfMemory}
 use Rattle.ssc.specs.Errors.{ssc_failed, ssc_lost}
 use Rattle.cached_disk.specs.Kept.{state_in}
 use Rattle.cached_disk.proofs.CallLemmas.{gives_up, goes_down, goes_driven}
-use Rattle.cached_disk.proofs.HeldLemmas.{is_up, stopped_down}
-use Rattle.cached_disk.proofs.ReadLemmas.{done_left, done_stands, drove_held, refused_left, refused_stands, still_up}
+use Rattle.cached_disk.proofs.HeldLemmas.{is_up, stopped_down, through_none}
+use Rattle.cached_disk.proofs.ReadLemmas.{done_keeps, done_left, drove_held, refused_keeps, refused_left, still_up}
 use Rattle.write_through.proofs.TakeLemmas.{evict_shows, evicted_absent, evicted_held, evicted_keeps, evicted_may, evicted_shows}
 use Rattle.write_through.proofs.volume.WriteThrough.take_out.Goals as goal
 
@@ -30,7 +30,7 @@ returns-in-Ok-clause-steps g c =
     let may = evicted_may v before.contents s left.own is through lba k (c.in-Ok.ensures.held s is.holds) (λ none. (c.in-Ok.ensures.absent s is.holds none).0) in
     record {
       left = record {
-        disk = done_left v k before.contents after.contents s by (evicted lba s) (evicted_shows v before.contents s left.own is through lba) (c.in-Ok.ensures.done s is.holds) (evicted_keeps v before.contents s left.own is through lba) may;
+        disk = done_left v k before.contents after.contents s by (evicted lba s) (evicted_shows v before.contents s left.own is through lba) (c.in-Ok.ensures.done s is.holds) (evicted_keeps v before.contents s left.own is through lba) may (through_none (record v { cache = k }) through may);
         mode = through;
       };
       goes = goes_driven tt before after (state_in [] v) (state_in [] (record v { cache = k })) refl (still_up v k c.requires.may.up c.in-Ok.ensures.runs.stopped) c.in-Ok.ensures.runs.drives;
@@ -50,7 +50,8 @@ returns-in-Ok-clause-stands g c =
     let through = c.requires.may.left.mode in
     let by = drove_held v k before after (ssc_failed c.evict.result) (ssc_lost c.evict.result) left c.requires.may.up c.evict.ensures.runs.geometry c.evict.ensures.runs.drives in
     let may = evicted_may v before.contents s left.own is through lba k (c.in-Ok.ensures.held s is.holds) (λ none. (c.in-Ok.ensures.absent s is.holds none).0) in
-    done_stands v k before.contents after.contents s by (evicted lba s) (evicted_shows v before.contents s left.own is through lba) (c.in-Ok.ensures.done s is.holds) (evicted_keeps v before.contents s left.own is through lba) may
+    done_keeps v k before.contents after.contents s by (evicted lba s) (evicted_shows v before.contents s left.own is through lba) (c.in-Ok.ensures.done s is.holds) (evicted_keeps v before.contents s left.own is through lba) may
+    (through_none (record v { cache = k }) through may) (through_none v through is.may_undo)
 
 pub returns-in-Ok-clause-absent : goal.returns-in-Ok-clause-absent
 returns-in-Ok-clause-absent g c =
@@ -79,7 +80,7 @@ returns-in-Err-clause-steps g c =
     let down = stopped_down v k (c.in-Err.ensures.runs.stopped ∙ gives_up c.in-Err.error (λ n limit full. c.in-Err.ensures.runs.full n limit (ap Err full)) memory) in
     record {
       left = record {
-        disk = refused_left v k before.contents after.contents s by shown.list shown.shows shown.stands down;
+        disk = refused_left v k before.contents after.contents s by shown down;
         mode = through;
       };
       goes = goes_down before after (state_in [] v) (state_in [] (record v { cache = k })) c.in-Err.error c.cache_error.result refl down c.cache_error.ensures memory c.in-Err.ensures.runs.drives;
@@ -97,7 +98,7 @@ returns-in-Err-clause-stands g c =
     let is = left.up c.requires.may.up in
     let by = drove_held v k before after (ssc_failed c.evict.result) (ssc_lost c.evict.result) left c.requires.may.up c.evict.ensures.runs.geometry c.evict.ensures.runs.drives in
     let shown = evict_shows v before.contents s left.own is c.requires.may.left.mode c.args.lba after.contents.flash.page (c.evict.ensures.images s is.holds (with_newest after.contents) (newest_image after.contents)) in
-    refused_stands v k before.contents after.contents s by shown.list shown.shows shown.stands
+    refused_keeps v k before.contents after.contents s by shown (through_none v c.requires.may.left.mode is.may_undo)
 
 pub returns-in-Ok-clause-no_disk : goal.returns-in-Ok-clause-no_disk
 returns-in-Ok-clause-no_disk g c = let drives = c.evict.ensures.runs.drives in record { disk_reads = drives.disk_reads; disk_writes = drives.disk_writes; disk_flushes = drives.disk_flushes }

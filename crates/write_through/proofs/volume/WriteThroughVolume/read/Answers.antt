@@ -1,14 +1,15 @@
-use Rattle.std.proofs.Common.{[]}
+use Rattle.write_through.proofs.VolumeLemmas.{through_done}
+use Rattle.std.proofs.Common.{refl, []}
 use Rattle.ft_volume.specs.Opening.{ImageIs}
 use Rattle.ft_volume.specs.Volume.{Reads, opened_of}
-use Rattle.ft_volume.proofs.UpLemmas.{asks_refused, asks_through, costs_through, costs_unopened, done_refused, done_through, goes_through}
+use Rattle.ft_volume.proofs.UpLemmas.{asks_refused, asks_through, costs_through, costs_unopened, done_refused, goes_through}
 use Rattle.cached_disk.specs.Kept.{Loads, state_in}
 use Rattle.write_through.specs.Left.{state_of}
 use Rattle.write_through.proofs.volume.WriteThroughVolume.read.Goals as goal
 
 pub returns-in-Ok-clause-disk : goal.returns-in-Ok-clause-disk
-returns-in-Ok-clause-disk g c = done_through ImageIs Loads (state_of c.args.self.now) (state_of c.bring_up.new.self) (state_in [] c.read.new.self) (g.R.Media.state c.args.rig.now)
-    (g.R.Media.state c.bring_up.new.media) (g.R.Media.state c.read.new.media) tt c.in-Ok.ensures.comes c.read.result (Reads c.args.lba c.read.new.block) (c.read.ensures.serves.was [])
+returns-in-Ok-clause-disk g c = through_done (Reads c.args.lba c.read.new.block) c.args.self.now.disk c.bring_up.new.self.disk c.read.new.self (g.R.Media.state c.args.rig.now) (g.R.Media.state c.bring_up.new.media) (g.R.Media.state c.read.new.media) c.read.result
+    c.in-Ok.ensures.comes c.bring_up.ensures.left.mode c.bring_up.ensures.left.disk c.in-Ok.ensures.up refl c.read.ensures.serves
 
 pub returns-in-Ok-clause-goes : goal.returns-in-Ok-clause-goes
 returns-in-Ok-clause-goes g c = goes_through ImageIs Loads (state_of c.args.self.now) (state_of c.bring_up.new.self) (state_in [] c.read.new.self) (g.R.Media.state c.args.rig.now)
@@ -19,7 +20,7 @@ returns-in-Ok-clause-costs g c = λ m has. costs_through ImageIs Loads (state_of
     (g.R.Media.state c.bring_up.new.media) (g.R.Media.state c.read.new.media) tt c.in-Ok.ensures.comes c.read.result (Reads c.args.lba c.read.new.block) m has (c.read.ensures.costs [])
 
 pub returns-in-Err-clause-disk : goal.returns-in-Err-clause-disk
-returns-in-Err-clause-disk g c = done_refused ImageIs Loads (Reads c.args.lba c.args.block.now) (state_of c.args.self.now) (state_of c.bring_up.new.self) (g.R.Media.state c.args.rig.now) (g.R.Media.state c.bring_up.new.media) c.in-Err.error c.in-Err.ensures.comes
+returns-in-Err-clause-disk g c = λ owed none. (owed, none, done_refused ImageIs Loads (Reads c.args.lba c.args.block.now) (state_of c.args.self.now) (state_of c.bring_up.new.self) owed owed (g.R.Media.state c.args.rig.now) (g.R.Media.state c.bring_up.new.media) c.in-Err.error c.in-Err.ensures.comes)
 
 pub returns-in-Ok-clause-asks : goal.returns-in-Ok-clause-asks
 returns-in-Ok-clause-asks g c = λ m has. asks_through ImageIs Loads (state_of c.args.self.now) (state_of c.bring_up.new.self) (state_in [] c.read.new.self) (g.R.Media.state c.args.rig.now)

@@ -1,11 +1,12 @@
+use Rattle.write_through.proofs.VolumeLemmas.{through_done}
 use Rattle.std.proofs.lemmas.Result.{on_ok_weaker}
-use Rattle.std.proofs.Common.{[], subst, ap, length}
+use Rattle.std.proofs.Common.{refl, [], subst, ap, length}
 use Rattle.std.specs.Prelude.{IfOk}
 use Rattle.ft_base.specs.Told.{Told}
 use Rattle.ft_volume.specs.Opening.{ImageIs}
 use Rattle.ft_volume.specs.Volume.{Reports, opened_of}
 use Rattle.ft_volume.specs.Reported.{IsReport}
-use Rattle.ft_volume.proofs.UpLemmas.{asks_refused, asks_through, costs_through, costs_unopened, done_refused, done_through, goes_through}
+use Rattle.ft_volume.proofs.UpLemmas.{asks_refused, asks_through, costs_through, costs_unopened, done_refused, goes_through}
 use Rattle.cache_model.specs.Records.{Entries}
 use Rattle.ssc.specs.CacheState.{entries_of}
 use Rattle.cached_disk.specs.Kept.{Loads, state_in, told_of}
@@ -14,8 +15,8 @@ use Rattle.write_through.specs.Left.{state_of}
 use Rattle.write_through.proofs.volume.WriteThroughVolume.report.Goals as goal
 
 pub returns-in-Ok-clause-disk : goal.returns-in-Ok-clause-disk
-returns-in-Ok-clause-disk g c = done_through ImageIs Loads (state_of c.args.self.now) (state_of c.bring_up.new.self) (state_in [] c.report.new.self) (g.R.Media.state c.args.rig.now)
-    (g.R.Media.state c.bring_up.new.media) (g.R.Media.state c.report.new.media) tt c.in-Ok.ensures.comes c.report.result Reports (c.report.ensures.serves.was [])
+returns-in-Ok-clause-disk g c = through_done Reports c.args.self.now.disk c.bring_up.new.self.disk c.report.new.self (g.R.Media.state c.args.rig.now) (g.R.Media.state c.bring_up.new.media) (g.R.Media.state c.report.new.media) c.report.result
+    c.in-Ok.ensures.comes c.bring_up.ensures.left.mode c.bring_up.ensures.left.disk c.in-Ok.ensures.up refl c.report.ensures.serves
 
 pub returns-in-Ok-clause-goes : goal.returns-in-Ok-clause-goes
 returns-in-Ok-clause-goes g c = goes_through ImageIs Loads (state_of c.args.self.now) (state_of c.bring_up.new.self) (state_in [] c.report.new.self) (g.R.Media.state c.args.rig.now)
@@ -33,7 +34,7 @@ returns-in-Ok-clause-report g c =
     (report_of c.report.result (told_of u) page (entries_of c.report.new.self.cache) c.report.ensures.loads c.report.ensures.report)
 
 pub returns-in-Err-clause-disk : goal.returns-in-Err-clause-disk
-returns-in-Err-clause-disk g c = done_refused ImageIs Loads Reports (state_of c.args.self.now) (state_of c.bring_up.new.self) (g.R.Media.state c.args.rig.now) (g.R.Media.state c.bring_up.new.media) c.in-Err.error c.in-Err.ensures.comes
+returns-in-Err-clause-disk g c = λ owed none. (owed, none, done_refused ImageIs Loads Reports (state_of c.args.self.now) (state_of c.bring_up.new.self) owed owed (g.R.Media.state c.args.rig.now) (g.R.Media.state c.bring_up.new.media) c.in-Err.error c.in-Err.ensures.comes)
 
 pub returns-in-Ok-clause-asks : goal.returns-in-Ok-clause-asks
 returns-in-Ok-clause-asks g c = λ m has. asks_through ImageIs Loads (state_of c.args.self.now) (state_of c.bring_up.new.self) (state_in [] c.report.new.self) (g.R.Media.state c.args.rig.now)

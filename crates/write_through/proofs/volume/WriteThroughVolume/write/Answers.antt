@@ -1,13 +1,20 @@
+use Rattle.std.proofs.Common.{List, [], refl, sym, subst}
+use Rattle.ft_base.specs.PlainDisk.{BlockWrite}
 use Rattle.ft_volume.specs.Opening.{ImageIs}
-use Rattle.ft_volume.specs.Volume.{Writes, opened_of}
+use Rattle.ft_volume.specs.Volume.{Done, Writes, opened_of, owing}
 use Rattle.ft_volume.proofs.UpLemmas.{asks_refused, asks_through, costs_through, costs_unopened, done_refused, done_through, goes_through, programs_through}
 use Rattle.cached_disk.specs.Kept.{Loads}
 use Rattle.write_through.specs.Left.{state_of}
 use Rattle.write_through.proofs.volume.WriteThroughVolume.write.Goals as goal
 
 pub returns-in-Ok-clause-disk : goal.returns-in-Ok-clause-disk
-returns-in-Ok-clause-disk g c = done_through ImageIs Loads (state_of c.args.self.now) (state_of c.bring_up.new.self) (state_of c.write_up.new.self) (g.R.Media.state c.args.rig.now)
-    (g.R.Media.state c.bring_up.new.media) (g.R.Media.state c.write_up.new.media) tt c.in-Ok.ensures.comes c.write_up.result (Writes c.args.lba c.args.block.now) c.write_up.ensures.was
+returns-in-Ok-clause-disk g c = λ owed none. (
+  [],
+  refl,
+  subst (λ (ws : List BlockWrite). Done ImageIs (Writes c.args.lba c.args.block.now) (owing (state_of c.args.self.now) ws) (owing (state_of c.write_up.new.self) []) (g.R.Media.state c.args.rig.now).contents (g.R.Media.state c.write_up.new.media).contents c.write_up.result) (sym none)
+      (done_through ImageIs Loads (state_of c.args.self.now) (state_of c.bring_up.new.self) (state_of c.write_up.new.self) (g.R.Media.state c.args.rig.now)
+      (g.R.Media.state c.bring_up.new.media) (g.R.Media.state c.write_up.new.media) tt c.in-Ok.ensures.comes c.write_up.result (Writes c.args.lba c.args.block.now) [] [] c.write_up.ensures.was),
+)
 
 pub returns-in-Ok-clause-goes : goal.returns-in-Ok-clause-goes
 returns-in-Ok-clause-goes g c = goes_through ImageIs Loads (state_of c.args.self.now) (state_of c.bring_up.new.self) (state_of c.write_up.new.self) (g.R.Media.state c.args.rig.now)
@@ -18,7 +25,7 @@ returns-in-Ok-clause-programs g c = programs_through ImageIs Loads (state_of c.a
     (g.R.Media.state c.bring_up.new.media) (g.R.Media.state c.write_up.new.media) tt c.in-Ok.ensures.comes c.write_up.result c.write_up.ensures.programs
 
 pub returns-in-Err-clause-disk : goal.returns-in-Err-clause-disk
-returns-in-Err-clause-disk g c = done_refused ImageIs Loads (Writes c.args.lba c.args.block.now) (state_of c.args.self.now) (state_of c.bring_up.new.self) (g.R.Media.state c.args.rig.now) (g.R.Media.state c.bring_up.new.media) c.in-Err.error c.in-Err.ensures.comes
+returns-in-Err-clause-disk g c = λ owed none. (owed, none, done_refused ImageIs Loads (Writes c.args.lba c.args.block.now) (state_of c.args.self.now) (state_of c.bring_up.new.self) owed owed (g.R.Media.state c.args.rig.now) (g.R.Media.state c.bring_up.new.media) c.in-Err.error c.in-Err.ensures.comes)
 
 pub returns-in-Ok-clause-asks : goal.returns-in-Ok-clause-asks
 returns-in-Ok-clause-asks g c = λ m has. asks_through ImageIs Loads (state_of c.args.self.now) (state_of c.bring_up.new.self) (state_of c.write_up.new.self) (g.R.Media.state c.args.rig.now)
