@@ -1,5 +1,5 @@
 -- A run over a new volume, from a run over any volume.
-use Rattle.std.proofs.Common.{◌≡◌, ◌≢◌, ◌⊎◌, inl, inr, ◌≤◌, ◌+◌, ◌&&◌, nat_le, nat_lt, ℕ, true, false, List, [], map, filter, Option, Result, Err, IsErrOf, refl, sym, ap, ◌∙◌, subst, arith}
+use Rattle.std.proofs.Common.{◌≡◌, ◌≢◌, ◌⊎◌, inl, inr, ◌≤◌, ◌+◌, ◌&&◌, nat_le, nat_lt, ℕ, Bool, true, false, List, [], map, filter, Option, Result, Err, IsErrOf, refl, sym, ap, ◌∙◌, subst, arith}
 use Rattle.std.proofs.lemmas.List.{nil_from_length}
 use Rattle.std.specs.FinMap.{entries, get-empty, len-empty, len-entries}
 use Rattle.std.specs.Option.{is_some}
@@ -25,6 +25,7 @@ use Rattle.ft_volume.specs.declared.options.Options.{Options}
 use Rattle.trace_model.specs.declared.answer.Answer.{Answer}
 use Rattle.trace_model.specs.declared.line.Line.{Line}
 use Rattle.trace_model.specs.declared.ran.Ran.{Ran}
+use Rattle.trace_model.specs.Readings.{Reading}
 use Rattle.trace_replay.proofs.CutsLemmas.{counts_then}
 use Rattle.trace_replay.proofs.FromLemmas.{ends_from}
 use Rattle.trace_replay.specs.Before.{IsBefore}
@@ -177,18 +178,30 @@ goes_begun x begins = record {
 
 -- ---- the records of a run over it
 
-module _ (mode kind : Mode) (options : Options) (is : mode ≡ kind) {owns : Contents → Type 0} {owes : Contents → List BlockWrite → Type 0} {v : VolumeState} {old begun : State} (new : IsNewVolume (told_for kind options) owns owes v old begun)
-    (u : Told) (stays : u ≡ v.told) (form : Form) (a z : SourceState) (x y : SinkState) (now : State) where
-  same : v.told ≡ told_for mode options
-  same = new.told ∙ ap (λ (m : Mode). told_for m options) (sym is)
+-- the relations on what was read and said may name the size of the volume
+module _ (mode kind : Mode) (options : Options) (is : mode ≡ kind) {owns : Contents → Type 0} {owes : Contents → List BlockWrite → Type 0} {v : VolumeState} {old begun : State} (new : IsNewVolume (told_for kind options) owns owes v old begun) where
+  told_new : v.told ≡ told_for mode options
+  told_new = new.told ∙ ap (λ (m : Mode). told_for m options) (sym is)
 
-  pub ends_new : (r : Result (Unit {0}) Ended) → EndsAs v.told (ReadsBy (form v.told.geometry.size) a z) (Tells x y) (TellsPart x y) (ImageIs u) begun now r
+  pub size_new : v.told.geometry.size ≡ options.geometry.size
+  size_new = ap (λ (k : Told). k.geometry.size) told_new
+
+  module _ (u : Told) (stays : u ≡ v.told) (reads : ℕ → ℕ → List Reading → Bool → Type 0) (says : ℕ → List Ran → List Answer → Type 0) (part : ℕ → List Ran → List Answer → Option Answer → Type 0) (now : State) where
+    pub ends_sized : (r : Result (Unit {0}) Ended)
+        → EndsAs v.told (reads v.told.geometry.size) (says v.told.geometry.size) (part v.told.geometry.size) (ImageIs u) begun now r
+        → EndsAs (told_for mode options) (reads options.geometry.size) (says options.geometry.size) (part options.geometry.size) (ImageStandsFor options.geometry) (fitted_for options.geometry old) now r
+    ends_sized r ends =
+        let size = options.geometry.size in
+        ends_from (told_for mode options) (reads size) (reads size) (says size) (says size) (ImageIs (told_for mode options)) (ImageStandsFor options.geometry) (fitted_for options.geometry old) begun now
+        (λ lines all w known. known) (λ run answers said. said) (image_stands (told_for mode options)) new.before
+        (part size) (part size) (λ run answers next shown. shown) r
+        (subst (λ (k : Told). EndsAs k (reads k.geometry.size) (says k.geometry.size) (part k.geometry.size) (ImageIs k) begun now r) told_new
+        (subst (λ (k : Told). EndsAs v.told (reads v.told.geometry.size) (says v.told.geometry.size) (part v.told.geometry.size) (ImageIs k) begun now r) stays ends))
+
+  pub ends_new : (u : Told) → u ≡ v.told → (form : Form) (a z : SourceState) (x y : SinkState) (now : State) (r : Result (Unit {0}) Ended)
+      → EndsAs v.told (ReadsBy (form v.told.geometry.size) a z) (Tells x y) (TellsPart x y) (ImageIs u) begun now r
       → EndsAs (told_for mode options) (ReadsBy (form options.geometry.size) a z) (Tells x y) (TellsPart x y) (ImageStandsFor options.geometry) (fitted_for options.geometry old) now r
-  ends_new r ends =
-      ends_from (told_for mode options) (ReadsBy (form options.geometry.size) a z) (ReadsBy (form options.geometry.size) a z) (Tells x y) (Tells x y) (ImageIs (told_for mode options)) (ImageStandsFor options.geometry) (fitted_for options.geometry old) begun now
-      (λ lines all w reads. reads) (λ run answers says. says) (image_stands (told_for mode options)) new.before
-      (TellsPart x y) (TellsPart x y) (λ run answers next shown. shown) r
-      (subst (λ (k : Told). EndsAs k (ReadsBy (form k.geometry.size) a z) (Tells x y) (TellsPart x y) (ImageIs k) begun now r) same (subst (λ (k : Told). EndsAs v.told (ReadsBy (form v.told.geometry.size) a z) (Tells x y) (TellsPart x y) (ImageIs k) begun now r) stays ends))
+  ends_new u stays form a z x y now = ends_sized u stays (λ size. ReadsBy (form size) a z) (λ size. Tells x y) (λ size. TellsPart x y) now
 
 -- ---- the records of a run of given lines over it
 

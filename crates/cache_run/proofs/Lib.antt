@@ -3,6 +3,7 @@ pub mod BeginLemmas
 pub mod CountLemmas
 pub mod CostLemmas
 pub mod InspectLemmas
+pub mod ManyLemmas
 pub mod OwedLemmas
 pub mod SilentLemmas
 pub mod UncutLemmas

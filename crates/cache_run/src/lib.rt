@@ -1,7 +1,7 @@
 //! A run: a rig is fitted, a new volume of a mode is made on it, and a trace is run over it, printed or not.
 //!
-//! The programs rely on the clauses of `replay_form_with`, `gen_with` and `inspect_with`, over any mode and options, on
-//! `status_of`, and on `default_options`. A sweep relies on those of `replay_lines` and `count_lines`, which run lines
+//! The programs rely on the clauses of `replay_form_with`, `replay_many_with`, `gen_with` and `inspect_with`, over any mode
+//! and options, on `status_of`, and on `default_options`. A sweep relies on those of `replay_lines` and `count_lines`, which run lines
 //! that are held.
 #![tactic(auto)]
 
@@ -23,4 +23,4 @@ pub use ending::status_of;
 pub use holding::replay_lines;
 pub use inspecting::inspect_with;
 pub use making::gen_with;
-pub use replaying::{replay_form_with, replay_with};
+pub use replaying::{replay_form_with, replay_many_with, replay_with};

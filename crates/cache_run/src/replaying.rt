@@ -1,8 +1,10 @@
-ghost use Rattle.std.specs.Prelude.{◌≡◌, ◌⊎◌, true, OnOk, IsErrOf};
+ghost use Rattle.std.specs.Prelude.{◌≡◌, ◌⊎◌, ◌≤◌, ◌/◌, true, OnOk, IsErrOf};
 ghost use Rattle.std.specs.Io.KnownBytes.{IsAtEnd};
 ghost use Rattle.ft_volume.specs.Volume.{told_for};
 ghost use Rattle.cache_model.specs.Stands.{ImageStandsFor};
 ghost use Rattle.trace_model.specs.Readings.{Reads};
+ghost use Rattle.many_disks.specs.Readings.{ReadsMany};
+ghost use Rattle.many_disks.specs.Told.{TellsMany, TellsManyPart};
 ghost use Rattle.trace_replay.specs.Causes.{EndHasCause};
 ghost use Rattle.trace_replay.specs.Forms.{ReadsBy};
 ghost use Rattle.trace_replay.specs.Lent.{KeepsLent};
@@ -15,6 +17,7 @@ use crate::beginning::{begin_back, begin_through};
 use ft_base::{Sink, Source};
 use ft_media::{Media, Rig};
 use ft_volume::{Mode, Options};
+use many_disks::replay_many;
 use std::alloc::Global;
 use trace_replay::{Ended, LineForm, TextForm, replay_form};
 use write_back::WriteBack;
@@ -53,6 +56,51 @@ pub fn replay_form_with<F: LineForm, I: Source, O: Sink, R: Rig>(
         Mode::Through => match begin_through(alloc, rig, options) {
             Ok(mut volume) => {
                 replay_form::<F, I, O, R, WriteThrough>(alloc, source, sink, rig, &mut volume)
+            }
+            Err(ended) => Err(ended),
+        },
+    }
+}
+
+/// Fits the rig, makes a volume of this mode and these options on it, and runs a trace over so many disks that share it.
+/// It prints what each request answered, by the addresses of its disk. Power may stop within any device write; the run
+/// then goes on after recovery.
+pub fn replay_many_with<I: Source, O: Sink, R: Rig>(
+    alloc: Global,
+    mode: Mode,
+    options: &Options,
+    disks: u32,
+    source: &mut I,
+    sink: &mut O,
+    rig: &mut R,
+) -> Result<(), Ended>
+    requires some { 1 ≤ disks }
+    requires few { disks ≤ 16 }
+    requires shared { disks ≤ options.now.geometry.size }
+    // It ended before the volume was made, or as a run over it.
+    ensures ends { IsUnbegun result source.old source.new sink.old sink.new (R.state rig.old) (R.state rig.new)
+        ⊎ EndsAs (told_for mode options.now)
+        (ReadsMany (options.now.geometry.size / disks) disks (I.state source.old) (I.state source.new))
+        (TellsMany (options.now.geometry.size / disks) disks (I.state source.old) (O.state sink.old) (O.state sink.new))
+        (TellsManyPart (options.now.geometry.size / disks) disks (I.state source.old) (O.state sink.old) (O.state sink.new))
+        (ImageStandsFor options.now.geometry) (fitted_for options.now.geometry (R.state rig.old)) (R.state rig.new) result }
+    ensures end { OnOk result (IsAtEnd (I.state source.new).left) }
+    ensures causes { EndHasCause result (I.state source.old) (I.state source.new) (O.state sink.old) (O.state sink.new) (R.state rig.old)
+        (R.state rig.new) }
+    ensures on { (IsErrOf result Ended.Memory → ⊥) → (R.state rig.new).power.on ≡ true }
+    ensures lent { KeepsLent (I.state source.old) (I.state source.new) (O.state sink.old) (O.state sink.new) (R.state rig.old)
+        (R.state rig.new) }
+{
+    match mode {
+        Mode::Back => match begin_back(alloc, rig, options) {
+            Ok(mut volume) => {
+                replay_many::<I, O, R, WriteBack>(alloc, disks, source, sink, rig, &mut volume)
+            }
+            Err(ended) => Err(ended),
+        },
+        Mode::Through => match begin_through(alloc, rig, options) {
+            Ok(mut volume) => {
+                replay_many::<I, O, R, WriteThrough>(alloc, disks, source, sink, rig, &mut volume)
             }
             Err(ended) => Err(ended),
         },

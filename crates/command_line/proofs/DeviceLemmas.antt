@@ -1,9 +1,9 @@
 -- The devices that words say.
-use Rattle.std.proofs.Common.{◌≡◌, true, false, List, [], ◌∷◌, ◌++◌, bytes_eq, codes, Option, Some, None, inl, inr, refl, sym, subst, ◌∙◌}
+use Rattle.std.proofs.Common.{◌≡◌, true, List, [], ◌∷◌, ◌++◌, bytes_eq, codes, Option, Some, None, inl, inr, refl, sym, subst, ◌∙◌}
 use mathlib.Core.Path.{fun_ext}
 use Rattle.std.specs.List.{AllByRecursion}
 use Rattle.std.proofs.lemmas.Bool.{cases_Bool}
-use Rattle.command_line.specs.Command.{IsGiven, IsOver, IsSetting, SayDevices, Setting, Spells, Text, every_name, flash_word, gen_names, is_known, option_names, parity_word, replay_names, sweep_names, value_in}
+use Rattle.command_line.specs.Command.{IsGiven, IsOver, IsSetting, SayDevices, Setting, Spells, Text, cost_names, every_name, flash_word, gen_names, is_known, option_names, parity_word, replay_names, sweep_names, value_in}
 use Rattle.command_line.specs.declared.devices.Devices.{Devices}
 use Rattle.command_line.specs.declared.devices.FlashKind.{FlashKind}
 use Rattle.command_line.specs.declared.devices.FlashKind.TheVariants.{Plain, Raw}
@@ -34,23 +34,31 @@ known_behind n (m ∷ before) names more all known = elim (cases_Bool (bytes_eq 
   | inr f ↦ rw f (known_behind n before names more all (rw f at known))
 ]
 
+-- the options that aren't of all commands
+abbrev own_names : List Text
+own_names = codes "form" ∷ codes "disks" ∷ codes "number" ∷ codes "count" ∷ codes "outcome" ∷ []
+
 abbrev pub AreAmong : List Text → Type 0
 AreAmong names = (n : Text) → is_known n names ≡ true → is_known n every_name ≡ true
 
 pub run_among : AreAmong option_names
-run_among n known = known_first n option_names (codes "form" ∷ codes "number" ∷ codes "count" ∷ codes "outcome" ∷ []) known
+run_among n known = known_first n option_names own_names known
 
 pub replay_among : AreAmong replay_names
-replay_among n = known_behind n option_names (codes "form" ∷ []) (codes "form" ∷ codes "number" ∷ codes "count" ∷ codes "outcome" ∷ [])
-    (known_first n (codes "form" ∷ []) (codes "number" ∷ codes "count" ∷ codes "outcome" ∷ []))
+replay_among n = known_behind n option_names (codes "form" ∷ codes "disks" ∷ []) own_names
+    (known_first n (codes "form" ∷ codes "disks" ∷ []) (codes "number" ∷ codes "count" ∷ codes "outcome" ∷ []))
+
+pub cost_among : AreAmong cost_names
+cost_among n = known_behind n option_names (codes "form" ∷ []) own_names
+    (known_first n (codes "form" ∷ []) (codes "disks" ∷ codes "number" ∷ codes "count" ∷ codes "outcome" ∷ []))
 
 pub gen_among : AreAmong gen_names
-gen_among n = known_behind n option_names (codes "number" ∷ codes "count" ∷ []) (codes "form" ∷ codes "number" ∷ codes "count" ∷ codes "outcome" ∷ [])
-    (λ known. known_later n (codes "form" ∷ []) (codes "number" ∷ codes "count" ∷ codes "outcome" ∷ []) (known_first n (codes "number" ∷ codes "count" ∷ []) (codes "outcome" ∷ []) known))
+gen_among n = known_behind n option_names (codes "number" ∷ codes "count" ∷ []) own_names
+    (λ known. known_later n (codes "form" ∷ codes "disks" ∷ []) (codes "number" ∷ codes "count" ∷ codes "outcome" ∷ []) (known_first n (codes "number" ∷ codes "count" ∷ []) (codes "outcome" ∷ []) known))
 
 pub sweep_among : AreAmong sweep_names
-sweep_among n = known_behind n option_names (codes "outcome" ∷ []) (codes "form" ∷ codes "number" ∷ codes "count" ∷ codes "outcome" ∷ [])
-    (known_later n (codes "form" ∷ codes "number" ∷ codes "count" ∷ []) (codes "outcome" ∷ []))
+sweep_among n = known_behind n option_names (codes "outcome" ∷ []) own_names
+    (known_later n (codes "form" ∷ codes "disks" ∷ codes "number" ∷ codes "count" ∷ []) (codes "outcome" ∷ []))
 
 all_among : (names : List Text) (settings : List Setting) → AreAmong names → AllByRecursion (IsSetting names) settings → AllByRecursion (IsSetting every_name) settings
 all_among names [] among all = tt

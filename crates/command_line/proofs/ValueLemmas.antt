@@ -18,7 +18,7 @@ use Rattle.ft_base.specs.declared.told.Mode.TheVariants.{Back, Through}
 use Rattle.ft_base.specs.declared.power.Outcome.{Outcome}
 use Rattle.ft_base.specs.declared.power.Outcome.TheVariants.{Blank, Whole, Torn, Mixed}
 use Rattle.std.specs.List.{list_all}
-use Rattle.command_line.specs.Command.{AreNumbers, IsCommand, IsCost, IsCount, IsDirty, IsGen, IsGiven, IsInspect, IsReadOf, IsReplay, IsRunOf, IsSweep, Say, SayMade, Setting, Spells, Text, ack_word, form_word, gen_names, mode_word, option_names, outcome_word, replay_names, sweep_names, value_in}
+use Rattle.command_line.specs.Command.{AreDisks, AreNumbers, IsCommand, IsCost, IsCount, IsDirty, IsGen, IsGiven, IsInspect, IsReadOf, IsReplay, IsRunOf, IsSweep, Say, SayMade, Setting, Spells, Text, ack_word, form_word, gen_names, mode_word, option_names, outcome_word, replay_names, sweep_names, value_in}
 use Rattle.command_line.specs.declared.command.TraceForm.{TraceForm}
 use Rattle.command_line.specs.declared.command.TraceForm.TheVariants.{Lines, Msr}
 use Rattle.command_line.specs.Matching.{is_name}
@@ -212,10 +212,10 @@ pub first_word : (word text name : Text) (equal : Bool) → text ≡ word → eq
 first_word word text name equal same is holds = sym same ∙ (bytes_eq-Decides text name).0 (sym is ∙ holds)
 
 pub apart : (words : List Text) (o other : Told) (number count : ℕ) → IsCommand words o → IsGen words other number count → ⊥
-apart words o other number count command gen = differ (codes "replay") (codes "gen") refl (cc (command.1.first, gen.first))
+apart words o other number count command gen = differ (codes "replay") (codes "gen") refl (cc (command.2.read.first, gen.first))
 
 pub inspected_apart : (words : List Text) (o other : Told) → IsInspect words o → IsCommand words other → ⊥
-inspected_apart words o other inspect command = differ (codes "inspect") (codes "replay") refl (cc (inspect.first, command.1.first))
+inspected_apart words o other inspect command = differ (codes "inspect") (codes "replay") refl (cc (inspect.first, command.2.read.first))
 
 pub inspected_made : (words : List Text) (o other : Told) (number count : ℕ) → IsInspect words o → IsGen words other number count → ⊥
 inspected_made words o other number count inspect gen = differ (codes "inspect") (codes "gen") refl (cc (inspect.first, gen.first))
@@ -235,38 +235,88 @@ same_form (Some word) f g given other = same_form_word f g (sym given ∙ other)
 pub form_along : (value other : Text → Option Text) (f : TraceForm) → ((name : Text) → value name ≡ other name) → IsGiven form_word Lines (value (codes "form")) f → IsGiven form_word Lines (other (codes "form")) f
 form_along value other f same = subst (λ (word : Option Text). IsGiven form_word Lines word f) (same (codes "form"))
 
-pub same_read : (word : Text) (words : List Text) (o other : Told) (f g : TraceForm) → IsReadOf word words o f → IsReadOf word words other g → (o ≡ other) × (f ≡ g)
-same_read word words o other f g read also =
+abbrev AreNames : List Text → Type 0
+AreNames names = list_all is_name names ≡ true
+
+pub same_read : (names : List Text) → AreNames names → (word : Text) (words : List Text) (o other : Told) (f g : TraceForm) → IsReadOf names word words o f → IsReadOf names word words other g → (o ≡ other) × (f ≡ g)
+same_read names are word words o other f g read also =
     let rest : read.others ≡ also.others = cc (read.first, also.first) in
-    let spelled = subst (λ (ws : List Text). Spells replay_names ws read.settings) rest read.spelled in
-    let values = same_values replay_names also.others read.settings also.settings refl spelled also.spelled in (
+    let spelled = subst (λ (ws : List Text). Spells names ws read.settings) rest read.spelled in
+    let values = same_values names also.others read.settings also.settings are spelled also.spelled in (
       same_said (value_in also.settings) o other (say_along (value_in read.settings) (value_in also.settings) o values read.says) also.says,
       same_form (value_in also.settings (codes "form")) f g (form_along (value_in read.settings) (value_in also.settings) f values read.spelling) also.spelling,
     )
 
-pub same_replayed : (words : List Text) (o other : Told) → IsCommand words o → IsCommand words other → o ≡ other
-same_replayed words o other replay also = (same_read (codes "replay") words o other replay.0 also.0 replay.1 also.1).0
-
-pub same_spelling : (words : List Text) (o other : Told) (f g : TraceForm) → IsReplay words o f → IsReplay words other g → f ≡ g
-same_spelling words o other f g replay also = (same_read (codes "replay") words o other f g replay also).1
-
-module _ (others : List Text) (settings : List Setting) (value : Text → Option Text) (values : (name : Text) → value name ≡ value_in settings name) where
-  read_values : Spells replay_names others settings → (word : Text) (o : Told) (f : TraceForm) (read : IsReadOf word (word ∷ others) o f) → (name : Text) → value_in read.settings name ≡ value name
-  read_values spelled word o f read name =
+module _ (names : List Text) (are : AreNames names) (others : List Text) (settings : List Setting) (value : Text → Option Text) (values : (name : Text) → value name ≡ value_in settings name) (spelled : Spells names others settings) (word : Text) where
+  read_values : (o : Told) (f : TraceForm) (read : IsReadOf names word (word ∷ others) o f) → (name : Text) → value_in read.settings name ≡ value name
+  read_values o f read name =
       let rest : read.others ≡ others = cc read.first in
-      let also = subst (λ (ws : List Text). Spells replay_names ws read.settings) rest read.spelled in
-      same_values replay_names others read.settings settings refl also spelled name ∙ sym (values name)
+      let also = subst (λ (ws : List Text). Spells names ws read.settings) rest read.spelled in
+      same_values names others read.settings settings are also spelled name ∙ sym (values name)
 
-  pub no_read_volume : Spells replay_names others settings → ((o : Told) → Say value o → ⊥) → (word : Text) (o : Told) (f : TraceForm) → IsReadOf word (word ∷ others) o f → ⊥
-  no_read_volume spelled says word o f read = says o (say_along (value_in read.settings) value o (read_values spelled word o f read) read.says)
+  pub no_read_volume : ((o : Told) → Say value o → ⊥) → (o : Told) (f : TraceForm) → IsReadOf names word (word ∷ others) o f → ⊥
+  no_read_volume says o f read = says o (say_along (value_in read.settings) value o (read_values o f read) read.says)
 
-  pub no_read_form : Spells replay_names others settings → ((f : TraceForm) → IsGiven form_word Lines (value (codes "form")) f → ⊥) → (word : Text) (o : Told) (f : TraceForm) → IsReadOf word (word ∷ others) o f → ⊥
-  no_read_form spelled says word o f read = says f (form_along (value_in read.settings) value f (read_values spelled word o f read) read.spelling)
+  pub no_read_form : ((f : TraceForm) → IsGiven form_word Lines (value (codes "form")) f → ⊥) → (o : Told) (f : TraceForm) → IsReadOf names word (word ∷ others) o f → ⊥
+  no_read_form says o f read = says f (form_along (value_in read.settings) value f (read_values o f read) read.spelling)
+
+-- ---- the disks of a replay
+
+pub disks_along : (value other : Text → Option Text) (f : TraceForm) (size disks : ℕ) → ((name : Text) → value name ≡ other name) → AreDisks value f size disks → AreDisks other f size disks
+disks_along value other f size disks same = subst (λ (v : Text → Option Text). AreDisks v f size disks) (fun_ext same)
+
+same_disks : (value : Text → Option Text) (f g : TraceForm) (size more m n : ℕ) → AreDisks value f size m → AreDisks value g more n → m ≡ n
+same_disks value f g size more m n are also = same_number 1 (value (codes "disks")) m n (omega (arith, are.high)) (omega (arith, also.high)) are.given also.given
+
+-- a number that is no number of disks
+pub no_disks : (value : Text → Option Text) (f : TraceForm) (size m disks : ℕ) → m < 2 ^ 32 → IsGiven decimal 1 (value (codes "disks")) m → ((m < 1) ⊎ ((16 < m) ⊎ (size < m))) → AreDisks value f size disks → ⊥
+no_disks value f size m disks small given out are =
+    let same = same_number 1 (value (codes "disks")) m disks (omega arith) (omega (arith, are.high)) given are.given in
+    outside out are.low are.high are.shared same
+  where
+    outside : (m < 1) ⊎ ((16 < m) ⊎ (size < m)) → 1 ≤ disks → disks ≤ 16 → disks ≤ size → m ≡ disks → ⊥
+    outside (inl below) low high shared same = omega arith
+    outside (inr (inl above)) low high shared same = omega arith
+    outside (inr (inr beyond)) low high shared same = omega arith
+
+-- nor several of them if the lines can't choose
+pub no_choice : (value : Text → Option Text) (f : TraceForm) (size m disks : ℕ) → m < 2 ^ 32 → IsGiven decimal 1 (value (codes "disks")) m → ((f ≡ Msr → m ≡ 1) → ⊥) → AreDisks value f size disks → ⊥
+no_choice value f size m disks small given many are =
+    many (λ msr. same_number 1 (value (codes "disks")) m disks (omega arith) (omega (arith, are.high)) given are.given ∙ are.words msr)
+
+pub same_replayed : (words : List Text) (o other : Told) → IsCommand words o → IsCommand words other → o ≡ other
+same_replayed words o other replay also = (same_read replay_names refl (codes "replay") words o other replay.0 also.0 replay.2.read also.2.read).0
+
+pub same_spelling : (words : List Text) (o other : Told) (f g : TraceForm) (m n : ℕ) → IsReplay words o f m → IsReplay words other g n → (f ≡ g) × (m ≡ n)
+same_spelling words o other f g m n replay also =
+    let rest : replay.read.others ≡ also.read.others = cc (replay.read.first, also.read.first) in
+    let spelled = subst (λ (ws : List Text). Spells replay_names ws replay.read.settings) rest replay.read.spelled in
+    let values = same_values replay_names also.read.others replay.read.settings also.read.settings refl spelled also.read.spelled in (
+      (same_read replay_names refl (codes "replay") words o other f g replay.read also.read).1,
+      same_disks (value_in also.read.settings) f g o.geometry.size other.geometry.size m n (disks_along (value_in replay.read.settings) (value_in also.read.settings) f o.geometry.size m values replay.over) also.over,
+    )
+
+module _ (others : List Text) (settings : List Setting) (value : Text → Option Text) (values : (name : Text) → value name ≡ value_in settings name) (spelled : Spells replay_names others settings) where
+  pub no_replay_volume : ((o : Told) → Say value o → ⊥) → (o : Told) → IsCommand (codes "replay" ∷ others) o → ⊥
+  no_replay_volume says o command = no_read_volume replay_names refl others settings value values spelled (codes "replay") says o command.0 command.2.read
+
+  pub no_replay_form : ((f : TraceForm) → IsGiven form_word Lines (value (codes "form")) f → ⊥) → (o : Told) → IsCommand (codes "replay" ∷ others) o → ⊥
+  no_replay_form says o command = no_read_form replay_names refl others settings value values spelled (codes "replay") says o command.0 command.2.read
+
+  -- the volume and the form are those that were found
+  pub no_replay_disks : (found : Told) (f : TraceForm) → Say value found → IsGiven form_word Lines (value (codes "form")) f → ((disks : ℕ) → AreDisks value f found.geometry.size disks → ⊥) → (o : Told) → IsCommand (codes "replay" ∷ others) o → ⊥
+  no_replay_disks found f says given none o command =
+      let read = command.2.read in
+      let along = read_values replay_names refl others settings value values spelled (codes "replay") o command.0 read in
+      let size : o.geometry.size ≡ found.geometry.size = ap (λ (t : Told). t.geometry.size) (same_said value o found (say_along (value_in read.settings) value o along read.says) says) in
+      let form = same_form (value (codes "form")) command.0 f (form_along (value_in read.settings) value command.0 along read.spelling) given in
+      let over = disks_along (value_in read.settings) value command.0 o.geometry.size command.1 along command.2.over in
+      none command.1 (subst (λ (g : TraceForm). AreDisks value g found.geometry.size command.1) form (subst (λ n. AreDisks value command.0 n command.1) size over))
 
 -- ---- what a run cost
 
 pub costed_apart : (words : List Text) (o other : Told) (f : TraceForm) → IsCost words o f → IsCommand words other → ⊥
-costed_apart words o other f cost command = differ (codes "cost") (codes "replay") refl (cc (cost.first, command.1.first))
+costed_apart words o other f cost command = differ (codes "cost") (codes "replay") refl (cc (cost.first, command.2.read.first))
 
 pub costed_inspected : (words : List Text) (o other : Told) (f : TraceForm) → IsCost words o f → IsInspect words other → ⊥
 costed_inspected words o other f cost inspect = differ (codes "cost") (codes "inspect") refl (cc (cost.first, inspect.first))
@@ -327,7 +377,7 @@ module _ (others : List Text) (settings : List Setting) (value : Text → Option
   no_sweep_outcome spelled says o x sweep = says x (left_along (value_in sweep.settings) value x (sweep_values spelled o x sweep) sweep.leaves)
 
 pub swept_apart : (words : List Text) (o other : Told) (x : Outcome) → IsSweep words o x → IsCommand words other → ⊥
-swept_apart words o other x sweep command = differ (codes "sweep") (codes "replay") refl (cc (sweep.first, command.1.first))
+swept_apart words o other x sweep command = differ (codes "sweep") (codes "replay") refl (cc (sweep.first, command.2.read.first))
 
 pub swept_inspected : (words : List Text) (o other : Told) (x : Outcome) → IsSweep words o x → IsInspect words other → ⊥
 swept_inspected words o other x sweep inspect = differ (codes "sweep") (codes "inspect") refl (cc (sweep.first, inspect.first))

@@ -30,7 +30,11 @@ option_names = codes "mode" ∷ codes "pages" ∷ codes "data" ∷ codes "log" �
 
 -- the options of a replay
 abbrev pub replay_names : List Text
-replay_names = option_names ++ codes "form" ∷ []
+replay_names = option_names ++ codes "form" ∷ codes "disks" ∷ []
+
+-- the options of a run of which the cost is told
+abbrev pub cost_names : List Text
+cost_names = option_names ++ codes "form" ∷ []
 
 -- the options of a made trace
 abbrev pub gen_names : List Text
@@ -42,7 +46,7 @@ sweep_names = option_names ++ codes "outcome" ∷ []
 
 -- the options of all commands
 abbrev pub every_name : List Text
-every_name = option_names ++ codes "form" ∷ codes "number" ∷ codes "count" ∷ codes "outcome" ∷ []
+every_name = option_names ++ codes "form" ∷ codes "disks" ∷ codes "number" ∷ codes "count" ∷ codes "outcome" ∷ []
 
 -- there is an option of this name
 abbrev pub is_known : Text → List Text → Bool
@@ -157,6 +161,15 @@ pub record Say (value : Text → Option Text) (o : Told) : Type 0 where
   pub devices : Devices
   pub over : SayDevices value devices
 
+-- how many disks share the volume: one to sixteen, and no more than it has blocks. They are more than one only if the
+-- lines are words
+pub record AreDisks (value : Text → Option Text) (form : TraceForm) (size disks : ℕ) : Type 0 where
+  pub given : IsGiven decimal 1 (value (codes "disks")) disks
+  pub low : 1 ≤ disks
+  pub high : disks ≤ 16
+  pub shared : disks ≤ size
+  pub words : form ≡ Msr → disks ≡ 1
+
 -- how many lines a made trace has: one to a million
 pub record IsCount (value : Text → Option Text) (count : ℕ) : Type 0 where
   pub given : IsGiven decimal 20000 (value (codes "count")) count
@@ -177,26 +190,27 @@ pub record IsRunOf (word : Text) (words : List Text) (o : Told) : Type 0 where
   pub spelled : Spells option_names others settings
   pub says : Say (value_in settings) o
 
--- this word, and then options that say this of the volume and of the form of the trace's lines
-pub record IsReadOf (word : Text) (words : List Text) (o : Told) (form : TraceForm) : Type 0 where
+-- this word, and then options of these names that say this of the volume and of the form of the trace's lines
+pub record IsReadOf (names : List Text) (word : Text) (words : List Text) (o : Told) (form : TraceForm) : Type 0 where
   pub others : List Text
   pub first : words ≡ word ∷ others
   pub settings : List Setting
-  pub spelled : Spells replay_names others settings
+  pub spelled : Spells names others settings
   pub says : Say (value_in settings) o
   pub spelling : IsGiven form_word Lines (value_in settings (codes "form")) form
 
--- a trace is replayed, of which the lines are in this form
-abbrev pub IsReplay : List Text → Told → TraceForm → Type 0
-IsReplay words o form = IsReadOf (codes "replay") words o form
+-- a trace is replayed, of which the lines are in this form, over so many disks
+pub record IsReplay (words : List Text) (o : Told) (form : TraceForm) (disks : ℕ) : Type 0 where
+  pub read : IsReadOf replay_names (codes "replay") words o form
+  pub over : AreDisks (value_in read.settings) form o.geometry.size disks
 
 -- a trace is run, of which the lines are in this form, and what it cost is told
 abbrev pub IsCost : List Text → Told → TraceForm → Type 0
-IsCost words o form = IsReadOf (codes "cost") words o form
+IsCost words o form = IsReadOf cost_names (codes "cost") words o form
 
--- a trace is replayed, in whatever form its lines are
+-- a trace is replayed, in whatever form its lines are and over however many disks
 abbrev pub IsCommand : List Text → Told → Type 0
-IsCommand words o = (form : TraceForm) × IsReplay words o form
+IsCommand words o = (form : TraceForm) × (disks : ℕ) × IsReplay words o form disks
 
 -- a trace is run, and what it leaves in the cache is told
 abbrev pub IsInspect : List Text → Told → Type 0

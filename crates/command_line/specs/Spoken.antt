@@ -8,7 +8,7 @@ use Rattle.command_line.specs.declared.devices.Spoken.{Spoken}
 
 -- the words say this command
 abbrev pub AreWordsOf : List Text → Command → Type 0
-AreWordsOf words (Replay mode options form) = IsReplay words (told_for mode options) form
+AreWordsOf words (Replay mode options form disks) = IsReplay words (told_for mode options) form disks
 AreWordsOf words (Cost mode options form) = IsCost words (told_for mode options) form
 AreWordsOf words (Gen mode options number count) = IsGen words (told_for mode options) number count
 AreWordsOf words (Inspect mode options) = IsInspect words (told_for mode options)

@@ -3,13 +3,13 @@ ghost use Rattle.std.specs.String.{string_bytes};
 ghost use Rattle.ft_base.specs.Told.{Told};
 ghost use Rattle.ft_base.specs.declared.power.Outcome.{Outcome};
 ghost use Rattle.ft_volume.specs.Volume.{told_for};
-ghost use Rattle.command_line.specs.Command.{IsCommand, IsCost, IsGen, IsInspect, IsOver, IsReadOf, IsRunOf, IsSweep, Text};
+ghost use Rattle.command_line.specs.Command.{IsCommand, IsCost, IsGen, IsInspect, IsOver, IsRunOf, IsSweep, Text};
 ghost use Rattle.command_line.specs.Spoken.{AreWordsFor};
 ghost use Rattle.command_line.specs.declared.command.TraceForm.{TraceForm};
 
 use crate::devices::{Devices, Spoken};
-use crate::matching::{gen_options, replay_options, run_options, sweep_options};
-use crate::settings::{form_of, made_of, outcome_of, volume_of};
+use crate::matching::{cost_options, gen_options, replay_options, run_options, sweep_options};
+use crate::settings::{disks_of, form_of, made_of, outcome_of, volume_of};
 use ft_base::Outcome;
 use ft_volume::{Mode, Options};
 use std::alloc::{AllocError, Global};
@@ -34,6 +34,8 @@ pub enum Command {
         options: Options,
         /// How its lines are spelled.
         form: TraceForm,
+        /// How many disks share the volume.
+        disks: u32,
     },
     /// Over a trace that is read, to tell what it cost.
     Cost {
@@ -79,7 +81,7 @@ pub enum Command {
 /// The first word is `replay`, `gen`, `inspect`, `cost` or `sweep`. After it come options in any order, each at most once, as
 /// `--name value` or `--name=value`. A value in a word by itself doesn't begin with `-`. A number is `0`, or
 /// decimal digits of which the first isn't 0. Every other word is refused, also `--` and flags for help or a
-/// version. No volume has both `--mode through` and `--ack flush`.
+/// version. No volume has both `--mode through` and `--ack flush`. Lines of the form `msr` are for one disk alone.
 ///
 /// | Option | Value | Default |
 /// |---|---|---|
@@ -94,6 +96,7 @@ pub enum Command {
 /// | `--flash` | whether flash tells which of its pages are torn, `plain`, or gives their bytes alone, `raw` | `plain` |
 /// | `--parity` | whether an erase block has a page of parity: `off` or `on` | `off` |
 /// | `--form`, of `replay` and `cost` alone | form of the trace's lines: `lines` or `msr` | `lines` |
+/// | `--disks`, of `replay` alone | disks that share the volume, 1 to 16 and at most its blocks | 1 |
 /// | `--number`, of `gen` alone | which made trace, 0 to 2^64 - 1 | 1 |
 /// | `--count`, of `gen` alone | lines of the made trace, 1 to 1,000,000 | 20,000 |
 /// | `--outcome`, of `sweep` alone | what a power cut leaves: `blank`, `whole`, `torn` or `mixed` | `torn` |
@@ -142,17 +145,10 @@ fn run_of(alloc: Global, others: &[String]) -> Result<Option<(Mode, Options, Dev
     Ok(Some(said))
 }
 
-/// The mode, the options, the devices and the form that these words after the word of a command say, or None if they say
-/// none.
-fn read_of(
-    alloc: Global,
-    others: &[String],
-) -> Result<Option<(Mode, Options, Devices, TraceForm)>, AllocError>
-    ensures some { IfOk result (λ it. IfSome it (λ it. (word : Text)
-        → IsReadOf word (word ∷ map string_bytes others.now) (told_for it.0 it.1) it.3
-        × IsOver (word ∷ map string_bytes others.now) it.2)) }
-    ensures none { IfOk result (λ it. IfNone it ((word : Text) (o : Told) (form : TraceForm)
-        → IsReadOf word (word ∷ map string_bytes others.now) o form → ⊥)) }
+/// The command that `replay` and these words after it say, or None where they are none.
+fn replay_command(alloc: Global, others: &[String]) -> Result<Option<Spoken>, AllocError>
+    ensures command { IfOk result (λ c. IfSome c (AreWordsFor (codes "replay" ∷ map string_bytes others.now))) }
+    ensures none { IfOk result (λ c. IfNone c ((o : Told) → IsCommand (codes "replay" ∷ map string_bytes others.now) o → ⊥)) }
 {
     let Some(matches) = replay_options(alloc, others)? else {
         return Ok(None);
@@ -163,25 +159,16 @@ fn read_of(
     let Some(form) = form_of(&matches) else {
         return Ok(None);
     };
-    Ok(Some((mode, options, devices, form)))
-}
-
-/// The command that `replay` and these words after it say, or None where they are none.
-fn replay_command(alloc: Global, others: &[String]) -> Result<Option<Spoken>, AllocError>
-    ensures command { IfOk result (λ c. IfSome c (AreWordsFor (codes "replay" ∷ map string_bytes others.now))) }
-    ensures none { IfOk result (λ c. IfNone c ((o : Told) → IsCommand (codes "replay" ∷ map string_bytes others.now) o → ⊥)) }
-{
-    match read_of(alloc, others)? {
-        Some((mode, options, devices, form)) => Ok(Some(Spoken {
-            command: Command::Replay {
-                mode,
-                options,
-                form,
-            },
-            devices,
-        })),
-        None => Ok(None),
-    }
+    let Some(disks) = disks_of(&matches, form, options.geometry.size) else {
+        return Ok(None);
+    };
+    let command = Command::Replay {
+        mode,
+        options,
+        form,
+        disks,
+    };
+    Ok(Some(Spoken { command, devices }))
 }
 
 /// The command that `cost` and these words after it say, or None if they are none.
@@ -190,17 +177,21 @@ fn cost_command(alloc: Global, others: &[String]) -> Result<Option<Spoken>, Allo
     ensures none { IfOk result (λ c. IfNone c ((o : Told) (form : TraceForm)
         → IsCost (codes "cost" ∷ map string_bytes others.now) o form → ⊥)) }
 {
-    match read_of(alloc, others)? {
-        Some((mode, options, devices, form)) => Ok(Some(Spoken {
-            command: Command::Cost {
-                mode,
-                options,
-                form,
-            },
-            devices,
-        })),
-        None => Ok(None),
-    }
+    let Some(matches) = cost_options(alloc, others)? else {
+        return Ok(None);
+    };
+    let Some((mode, options, devices)) = volume_of(&matches) else {
+        return Ok(None);
+    };
+    let Some(form) = form_of(&matches) else {
+        return Ok(None);
+    };
+    let command = Command::Cost {
+        mode,
+        options,
+        form,
+    };
+    Ok(Some(Spoken { command, devices }))
 }
 
 /// The command that `inspect` and these words after it say, or None where they are none.

@@ -9,8 +9,8 @@ ghost use Rattle.command_line.specs.Command.{IsCommand, IsCost, IsGen, IsInspect
 /// devices.
 pub fn command_law()
     ensures replay { (words : List Text) (o other : Told) → IsCommand words o → IsCommand words other → o ≡ other }
-    ensures form { (words : List Text) (o other : Told) (form form_too : TraceForm) → IsReplay words o form
-        → IsReplay words other form_too → form ≡ form_too }
+    ensures form { (words : List Text) (o other : Told) (form form_too : TraceForm) (disks disks_too : ℕ) → IsReplay words o form disks
+        → IsReplay words other form_too disks_too → (form ≡ form_too) × (disks ≡ disks_too) }
     ensures costed { (words : List Text) (o other : Told) (form form_too : TraceForm) → IsCost words o form
         → IsCost words other form_too → (o ≡ other) × (form ≡ form_too) }
     ensures costed_apart { (words : List Text) (o other : Told) (form : TraceForm) → IsCost words o form → IsCommand words other → ⊥ }

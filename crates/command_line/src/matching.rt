@@ -2,7 +2,7 @@ ghost use Rattle.std.specs.Prelude.{◌≡◌, ◌≢◌, List, [], map, true, f
 ghost use Rattle.std.specs.String.{string_bytes};
 ghost use Rattle.std.specs.List.{list_all};
 ghost use Rattle.clap.specs.Words.{app_of, rule_of, rows_of, found_of, matches_of, fault_of, is_simple_and_free};
-ghost use Rattle.command_line.specs.Command.{Setting, Spells, Text, gen_names, option_names, replay_names, sweep_names, value_in};
+ghost use Rattle.command_line.specs.Command.{Setting, Spells, Text, cost_names, gen_names, option_names, replay_names, sweep_names, value_in};
 ghost use Rattle.command_line.specs.Matching.{bare_app, is_fair_word, is_name, option_rule, options_app, value_of};
 
 use clap::error::ErrorKind;
@@ -15,7 +15,13 @@ static RUN_NAMES: [&str; 10] = [
 ];
 
 /// The options of a replay.
-static REPLAY_NAMES: [&str; 11] = [
+static REPLAY_NAMES: [&str; 12] = [
+    "mode", "pages", "data", "log", "journal", "size", "dirty", "ack", "flash", "parity", "form",
+    "disks",
+];
+
+/// The options of a run of which the cost is told.
+static COST_NAMES: [&str; 11] = [
     "mode", "pages", "data", "log", "journal", "size", "dirty", "ack", "flash", "parity", "form",
 ];
 
@@ -151,6 +157,20 @@ pub(crate) fn replay_options<'a>(
         → ⊥)) }
 {
     options(alloc, REPLAY_NAMES.as_slice(), words)
+}
+
+/// The options of a run of which the cost is told, if the words spell them.
+pub(crate) fn cost_options<'a>(
+    alloc: Global,
+    words: &'a [String],
+) -> Result<Option<ArgMatches<'a>>, AllocError>
+    ensures some { IfOk result (λ r. IfSome r (λ m. (settings : List Setting)
+        × Spells cost_names (map string_bytes words.entry.now) settings
+        × ((name : Text) → value_of m name ≡ value_in settings name))) }
+    ensures none { IfOk result (λ r. IfNone r ((settings : List Setting) → Spells cost_names (map string_bytes words.entry.now) settings
+        → ⊥)) }
+{
+    options(alloc, COST_NAMES.as_slice(), words)
 }
 
 /// The options of a made trace that the words spell, or None where they spell none.

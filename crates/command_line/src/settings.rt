@@ -8,10 +8,10 @@ ghost use Rattle.ft_base.specs.declared.told.Ack.TheVariants.{Flush, Write};
 ghost use Rattle.ft_base.specs.declared.told.Mode.{Mode};
 ghost use Rattle.ft_base.specs.declared.told.Mode.TheVariants.{Back};
 ghost use Rattle.ft_volume.specs.Volume.{told_for};
-ghost use Rattle.command_line.specs.Command.{AreNumbers, IsCount, IsDirty, IsGiven, IsWriting, Say, SayDevices, SayMade, ack_word, flash_word, form_word, mode_word, outcome_word, parity_word};
+ghost use Rattle.command_line.specs.Command.{AreDisks, AreNumbers, IsCount, IsDirty, IsGiven, IsWriting, Say, SayDevices, SayMade, ack_word, flash_word, form_word, mode_word, outcome_word, parity_word};
 ghost use Rattle.command_line.specs.Matching.{value_of};
 ghost use Rattle.command_line.specs.declared.command.TraceForm.{TraceForm};
-ghost use Rattle.command_line.specs.declared.command.TraceForm.TheVariants.{Lines};
+ghost use Rattle.command_line.specs.declared.command.TraceForm.TheVariants.{Lines, Msr};
 ghost use Rattle.command_line.specs.declared.devices.Devices.{Devices};
 ghost use Rattle.command_line.specs.declared.devices.FlashKind.{FlashKind};
 ghost use Rattle.command_line.specs.declared.devices.FlashKind.TheVariants.{Plain};
@@ -281,6 +281,31 @@ pub(crate) fn form_of(matches: &ArgMatches<'_>) -> Option<TraceForm>
         Some(word) => form_named(word),
         None => Some(TraceForm::Lines),
     }
+}
+
+/// Whether lines in this form can choose among so many disks.
+fn is_chosen_by(form: TraceForm, disks: u32) -> bool
+    ensures { IsTrue result ↔ (form ≡ Msr → disks ≡ 1) }
+{
+    match form {
+        TraceForm::Lines => true,
+        TraceForm::Msr => disks == 1,
+    }
+}
+
+/// How many disks share a volume of so many blocks, if the trace's lines are in this form: what is given, or one.
+pub(crate) fn disks_of(matches: &ArgMatches<'_>, form: TraceForm, size: u64) -> Option<u32>
+    ensures some { IfSome result (AreDisks (value_of matches.now) form size) }
+    ensures none { IfNone result ((disks : ℕ) → AreDisks (value_of matches.now) form size disks → ⊥) }
+{
+    let disks = small_number(matches, "disks", 1)?;
+    if disks < 1 || disks > 16 || u64::from(disks) > size {
+        return None;
+    }
+    if !is_chosen_by(form, disks) {
+        return None;
+    }
+    Some(disks)
 }
 
 /// The outcome of which this is the word.

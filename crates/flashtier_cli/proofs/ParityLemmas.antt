@@ -64,7 +64,7 @@ module _ (o : Told) (reads : ℕ → List Reading → Bool → Type 0) (says : L
 -- after each command over one volume
 pub parity_ran : (a b : SourceState) (x y : SinkState) (first now beneath : State) (command : Command) (end : EndsCommand a b x y first now command (Ok (tt {0}))) → IsOverOne command
     → AreUncut (ran_by a b x y first now command end) → AreOverParity beneath now → AllHaveParity beneath.contents now.contents
-parity_ran a b x y first now beneath (Replay mode options form) end one uncut over = parity_whole (told_for mode options) _ _ _ first now beneath end uncut over
+parity_ran a b x y first now beneath (Replay mode options form disks) end one uncut over = parity_whole (told_for mode options) _ _ _ first now beneath end uncut over
 parity_ran a b x y first now beneath (Cost mode options form) end one uncut over = parity_costed (told_for mode options) _ _ _ first end.made now beneath end.new end.ends uncut over
 parity_ran a b x y first now beneath (Gen mode options number count) end one uncut over = parity_whole (told_for mode options) _ _ _ first now beneath end uncut over
 parity_ran a b x y first now beneath (Inspect mode options) end one uncut over = parity_whole (told_for mode options) _ _ _ first now beneath end.whole uncut over

@@ -15,10 +15,10 @@ ghost use Rattle.flashtier_cli.specs.Over.{AllHaveParity, AreOverParity};
 ghost use Rattle.flashtier_cli.specs.Runs.{IsMade, IsRead, IsSwept};
 ghost use Rattle.flashtier_cli.specs.Words.{IsAnySweep, ReadsTrace};
 
-/// The word `replay` alone says a run over the default options, of a trace of lines of words, over plain flash without
-/// parity.
+/// The word `replay` alone says a run over the default options, of a trace of lines of words over one disk, over plain
+/// flash without parity.
 pub fn default_law()
-    ensures replay { (o : Told) → IsDefault o → IsReplay (codes "replay" ∷ []) o Lines }
+    ensures replay { (o : Told) → IsDefault o → IsReplay (codes "replay" ∷ []) o Lines 1 }
     ensures devices { IsOver (codes "replay" ∷ []) (record { flash = Plain; parity = Off }) }
 {}
 

@@ -1,6 +1,7 @@
 //! A command over the devices that words say.
 ghost use Rattle.std.specs.Prelude.{◌≡◌};
 ghost use Rattle.command_line.specs.declared.devices.Parity.TheVariants.{On};
+ghost use Rattle.flashtier_cli.specs.Ends.{HasDisks};
 ghost use Rattle.flashtier_cli.specs.Over.{OnSealed};
 ghost use Rattle.flashtier_cli.specs.Runs.{Runs};
 
@@ -22,6 +23,7 @@ pub(crate) fn run_over<I: Source, O: Sink, R: Rig>(
     sink: &mut O,
     rig: &mut R,
 ) -> u8
+    requires { HasDisks command }
     ensures { Runs parity command result source.old source.new sink.old sink.new rig.old rig.new (I.state source.old) (I.state source.new)
         (O.state sink.old) (O.state sink.new) (R.state rig.old) (R.state rig.new) }
 {
@@ -39,6 +41,7 @@ fn run_with_parity<I: Source, O: Sink, R: Rig>(
     sink: &mut O,
     rig: &mut R,
 ) -> u8
+    requires { HasDisks command }
     ensures { Runs On command result source.old source.new sink.old sink.new rig.old rig.new (I.state source.old) (I.state source.new)
         (O.state sink.old) (O.state sink.new) (R.state rig.old) (R.state rig.new) }
 {
@@ -53,6 +56,7 @@ fn run_counted<I: Source, O: Sink, R: Rig, K: Start>(
     sink: &mut O,
     rig: &mut R,
 ) -> u8
+    requires disks { HasDisks command }
     requires flash { K.flash ≡ (R.state rig.old).faults.flash }
     requires cuts { K.cuts ≡ (R.state rig.old).faults.cuts }
     ensures { Runs On command result source.old source.new sink.old sink.new rig.old rig.new (I.state source.old) (I.state source.new)
@@ -75,6 +79,7 @@ pub(crate) fn run_sealed<I: Source, O: Sink, W: RawRig>(
     sink: &mut O,
     raw: &mut W,
 ) -> u8
+    requires { HasDisks command }
     ensures { OnSealed (Runs parity command result source.old source.new sink.old sink.new raw.old raw.new (I.state source.old)
         (I.state source.new) (O.state sink.old) (O.state sink.new)) (W.state raw.old) (W.state raw.new) }
 {

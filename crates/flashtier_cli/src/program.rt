@@ -30,6 +30,7 @@ use std::alloc::Global;
 /// | `--flash` | whether flash tells which of its pages are torn, `plain`, or gives back their bytes alone, `raw` | | `plain` |
 /// | `--parity` | whether an erase block has one more page with the parity of the others: `off` or `on` | | `off` |
 /// | `--form`, of `replay` and `cost` alone | form of the trace's lines: `lines`, or `msr` for those of MSR Cambridge | | `lines` |
+/// | `--disks`, of `replay` alone | disks that share the volume; only one with `--form msr` | 1 to 16, and at most its blocks | 1 |
 /// | `--number`, of `gen` alone | which made trace | 0 to 2^64 - 1 | 1 |
 /// | `--count`, of `gen` alone | lines of the made trace | 1 to 1,000,000 | 20,000 |
 /// | `--outcome`, of `sweep` alone | what a power cut leaves: `blank`, `whole`, `torn` or `mixed` | | `torn` |
@@ -39,6 +40,10 @@ use std::alloc::Global;
 /// write; the run then goes on after recovery. With `--ack flush` it tells how many block writes since the last flush a
 /// power cut lost. With `--form msr` its lines are those that storage people share,
 /// `Timestamp,Hostname,DiskNumber,Type,Offset,Size,ResponseTime`, each widened to whole blocks.
+///
+/// With `--disks M` and M above 1 the volume is M disks of equal size. The line `disk I` chooses disk I for the lines that
+/// follow it, and is printed; at the start disk 0 is chosen. The addresses in lines and answers are those of the chosen
+/// disk. At the end `disk I` and an end line are printed for each disk.
 ///
 /// With `gen` it runs a made trace so, and prints the end line alone. It takes nothing from the source.
 ///

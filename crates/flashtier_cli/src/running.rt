@@ -1,9 +1,10 @@
 //! A command over a rig.
 ghost use Rattle.std.specs.Prelude.{◌≡◌};
 ghost use Rattle.command_line.specs.declared.devices.Parity.TheVariants.{Off};
+ghost use Rattle.flashtier_cli.specs.Ends.{HasDisks};
 ghost use Rattle.flashtier_cli.specs.Runs.{Runs};
 
-use crate::spelled::{cost_spelled, replay_spelled};
+use crate::spelled::{cost_spelled, replay_over};
 use cache_run::{gen_with, inspect_with, status_of};
 use command_line::Command;
 use ft_base::{Sink, Source};
@@ -19,6 +20,7 @@ pub(crate) fn run_command<I: Source, O: Sink, R: Rig>(
     sink: &mut O,
     rig: &mut R,
 ) -> u8
+    requires { HasDisks command }
     ensures { Runs Off command result source.old source.new sink.old sink.new rig.old rig.new (I.state source.old) (I.state source.new)
         (O.state sink.old) (O.state sink.new) (R.state rig.old) (R.state rig.new) }
 {
@@ -27,7 +29,8 @@ pub(crate) fn run_command<I: Source, O: Sink, R: Rig>(
             mode,
             options,
             form,
-        } => status_of(replay_spelled(alloc, mode, &options, form, source, sink, rig)),
+            disks,
+        } => status_of(replay_over(alloc, mode, &options, form, disks, source, sink, rig)),
         Command::Cost {
             mode,
             options,

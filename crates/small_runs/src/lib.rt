@@ -8,4 +8,6 @@ mod plain;
 mod small;
 
 pub use plain::{cuts_told, is_plain, is_plain_with, lost_told};
-pub use small::{Manner, Outcome, Shape, THROUGH, at_flush, back, run, run_on, shape_of, sweep_on};
+pub use small::{
+    Manner, Outcome, Shape, THROUGH, at_flush, back, run, run_on, run_shared, shape_of, sweep_on,
+};

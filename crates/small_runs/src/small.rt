@@ -132,6 +132,18 @@ pub fn run(alloc: Global, shape: &Shape, trace: &[u8]) -> Result<Outcome, AllocE
     run_on(alloc, shape, trace, MemRig::new(alloc))
 }
 
+/// Runs the trace over so many disks that share the volume.
+pub fn run_shared(
+    alloc: Global,
+    shape: &Shape,
+    disks: u32,
+    trace: &[u8],
+) -> Result<Outcome, AllocError> {
+    let mut words = words_of(alloc, "replay", shape)?;
+    words.push(format!(in alloc; "--disks={disks}")?)?;
+    run_words_on(alloc, words.as_slice(), trace, MemRig::new(alloc))
+}
+
 /// Sweeps the trace over this rig. The word says what a power cut leaves.
 pub fn sweep_on(
     alloc: Global,

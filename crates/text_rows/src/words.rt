@@ -229,6 +229,36 @@ fn a_form_is_one_of_two_words_and_of_a_replay_alone(rt: HostRuntime) -> Result<(
     Ok(())
 }
 
+const NO_DISKS: [&str; 21] = [
+    "replay --disks",
+    "replay --disks=",
+    "replay --disks two",
+    "replay --disks=02",
+    "replay --disks 2,3",
+    "replay --disks 2 3",
+    "replay --disks 0",
+    "replay --disks=17",
+    "replay --disks 4294967298",
+    "replay --disks 2 --disks=2",
+    "replay --disk 2",
+    "replay --size 1 --disks 2",
+    "replay --disks=16 --size=15",
+    "replay --form msr --disks 2",
+    "replay --disks=16 --size 64 --form=msr",
+    "gen --disks 2",
+    "inspect --disks=2",
+    "cost --disks 1",
+    "cost --form lines --disks 2",
+    "sweep --disks=2",
+    "sweep --disks 1",
+];
+
+#[test]
+fn disks_are_few_and_of_a_replay_of_words_alone(rt: HostRuntime) -> Result<(), Fail> {
+    assert_eq!(rt; first_command(rt.alloc(), &NO_DISKS)?, None);
+    Ok(())
+}
+
 const NO_DEVICES: [&str; 18] = [
     "replay --flash",
     "replay --flash=",
@@ -319,11 +349,13 @@ fn says(command: Command, kind: Kind, mode: Mode, numbers: [u64; 6]) -> bool {
             mode,
             options,
             form: TraceForm::Lines,
+            ..
         } => (Kind::Replay, mode, options),
         Command::Replay {
             mode,
             options,
             form: TraceForm::Msr,
+            ..
         } => (Kind::ReplayMsr, mode, options),
         Command::Cost {
             mode,
@@ -598,6 +630,35 @@ const MADE_TRACES: [Row; 6] = [
 #[test]
 fn a_made_trace_has_a_number_and_a_count(rt: HostRuntime) -> Result<(), Fail> {
     assert_eq!(rt; first_other(rt.alloc(), &MADE_TRACES)?, None);
+    Ok(())
+}
+
+/// Lines, and how many disks their words say.
+const DISKS: [(&str, u32); 9] = [
+    ("replay", 1),
+    ("replay --disks 1", 1),
+    ("replay --disks=2", 2),
+    ("replay --disks 16", 16),
+    ("replay --size 16 --disks=16", 16),
+    ("replay --disks 1 --size=1", 1),
+    ("replay --form msr", 1),
+    ("replay --form=msr --disks=1", 1),
+    ("replay --disks 3 --form lines --mode through --size 64", 3),
+];
+
+#[test]
+fn a_replay_says_how_many_disks_share_its_volume(rt: HostRuntime) -> Result<(), Fail> {
+    for (line, count) in DISKS {
+        match spoken_in(rt.alloc(), line)? {
+            Some(
+                Spoken {
+                    command: Command::Replay { disks, .. },
+                    ..
+                },
+            ) => assert_eq!(rt; disks, count, "{line}"),
+            _ => assert!(rt; false, "{line}"),
+        }
+    }
     Ok(())
 }
 

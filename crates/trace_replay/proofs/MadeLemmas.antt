@@ -24,14 +24,15 @@ use Rattle.trace_model.specs.Text.{text, text_of}
 use Rattle.trace_replay.specs.declared.ended.Ended.{Ended}
 use Rattle.trace_replay.specs.declared.ended.Ended.TheVariants as ended
 use Rattle.trace_replay.specs.Commands.{Gives, TellsEndPart, ends_in, is_end}
-use Rattle.trace_replay.specs.Events.{Event, answers_in, events_of, lines_given}
+use Rattle.trace_replay.specs.Events.{BreaksAfter, Event, SaysAlone, answers_in, events_of, lines_given}
 use Rattle.trace_replay.specs.Events.Event.{Gave, Took, Touched}
 use Rattle.trace_replay.specs.Made.{BrokeMade, CameMade, stand_in}
 use Rattle.trace_replay.specs.Said.{Said, SaidPart, Takes}
 use Rattle.trace_gen.proofs.MadeLemmas.{length-lines_made}
+use Rattle.trace_replay.proofs.EndLineLemmas.{no_line}
 use Rattle.trace_replay.proofs.GivenLemmas.{answers_in-append, lines_given-append}
 use Rattle.trace_replay.proofs.SaidLemmas.{said_none, said_then, said_part-then}
-use Rattle.trace_replay.proofs.ToldLemmas.{SkipsLines, said_of}
+use Rattle.trace_replay.proofs.ToldLemmas.{said_of}
 
 -- ---- a line of a made trace
 
@@ -139,10 +140,6 @@ made_first g b = record { lines = refl; said = said_none b }
 
 -- ---- what a run says
 
--- no line answers an end line
-no_line : SkipsLines is_end
-no_line = record { wrote = λ lba count. refl; stopped = refl; kept = λ kept count. refl; lost = λ _. refl; read = λ lba tag. refl; flushed = refl; idle = refl; cut = refl }
-
 ends_told : (run : List Ran) (answers : List Answer) (more : List Event) → answers_in more ≡ answers → ends_in (answers_in (events_of run ++ more)) ≡ ends_in answers
 ends_told run answers more is = said_of is_end no_line run answers more is
 
@@ -154,13 +151,13 @@ told_end x y taken same run answers more is said =
 
 -- a part of one more answer, if the sink failed
 abbrev pub BrokenBy : SinkState → SinkState → List Ran → List Answer → Option Answer → Type 0
-BrokenBy x y run answers None = (line : Line) × (more : List Event) × (answers_in more ≡ answers) × BrokeMade x y (events_of run ++ more) (Gave line)
-BrokenBy x y run answers (Some next) = (more : List Event) × (answers_in more ≡ answers) × BrokeMade x y (events_of run ++ more) (Took next)
+BrokenBy x y run answers None = (line : Line) × (more : List Event) × SaysAlone answers more × BrokeMade x y (events_of run ++ more) (Gave line)
+BrokenBy x y run answers (Some next) = (more : List Event) × BreaksAfter run answers next more × BrokeMade x y (events_of run ++ more) (Took next)
 
 pub shown_end : (x y : SinkState) (taken : Option (List ℕ)) → y.taken ≡ taken → (run : List Ran) (answers : List Answer) (next : Option Answer) → BrokenBy x y run answers next → TellsEndPart x (record { taken = taken; faults = 0; lent = [] }) run answers next
 shown_end x y taken same run answers None part = absurd part.3
 shown_end x y taken same run answers (Some next) part =
-    let shown = subst (λ (r : List Answer). SaidPart x y r (Some next)) (ends_told run answers part.0 part.1) part.2.1 in
+    let shown = subst (λ (r : List Answer). SaidPart x y r (Some next)) (ends_told run answers part.0 part.1.said) part.2.1 in
     (part.2.0, (shown.0, shown.1, subst (λ (z : Option (List ℕ)). Appends x.taken z (text (ends_in answers) ++ take shown.0 (text_of next))) same shown.2))
 
 -- ---- nothing is refused

@@ -16,7 +16,7 @@ use Rattle.trace_model.specs.Run.{end_answers, end_of, lost_told, stopped}
 use Rattle.trace_model.specs.Text.{text, text_of}
 use Rattle.trace_replay.specs.declared.reader.Reader.{Reader}
 use Rattle.trace_replay.specs.Commands.{TellsRefusalPart, is_refusal, refusals_in}
-use Rattle.trace_replay.specs.Events.{Event, NextRefused, answers_in, events_of, lines_given, refusal_after, taking, told_bytes}
+use Rattle.trace_replay.specs.Events.{BreaksAfter, Event, NextRefused, SaysAlone, answers_in, events_of, lines_given, refusal_after, taking, told_bytes}
 use Rattle.trace_replay.specs.Events.Event.{Gave, Took, Touched}
 use Rattle.trace_replay.specs.Forms.{Form, ReadsBy, Says}
 use Rattle.trace_replay.specs.Quiet.{given_heard, heard, is_heard, lines_heard}
@@ -103,14 +103,14 @@ told_refusal x y taken same run answers more is said =
 
 -- a part of one more answer, if the sink failed
 abbrev pub BrokenBy : SinkState → SinkState → List Ran → List Answer → Option Answer → Type 0
-BrokenBy x y run answers None = (line : Line) × (more : List Event) × (answers_in more ≡ answers) × ((is_heard (Gave line) ≡ true) × BrokeStream x y (heard (events_of run ++ more)) (Gave line))
-BrokenBy x y run answers (Some next) = (more : List Event) × (answers_in more ≡ answers) × ((is_refusal next ≡ true) × BrokeStream x y (heard (events_of run ++ more)) (Took next))
+BrokenBy x y run answers None = (line : Line) × (more : List Event) × SaysAlone answers more × ((is_heard (Gave line) ≡ true) × BrokeStream x y (heard (events_of run ++ more)) (Gave line))
+BrokenBy x y run answers (Some next) = (more : List Event) × BreaksAfter run answers next more × ((is_refusal next ≡ true) × BrokeStream x y (heard (events_of run ++ more)) (Took next))
 
 pub shown_refusal : (x y : SinkState) (taken : Option (List ℕ)) → y.taken ≡ taken → (run : List Ran) (answers : List Answer) (next : Option Answer) → BrokenBy x y run answers next
     → TellsRefusalPart x (record { taken = taken; faults = 0; lent = [] }) run answers next
 shown_refusal x y taken same run answers None part = absurd part.3.1
 shown_refusal x y taken same run answers (Some next) part =
-    let shown = subst (λ (r : List Answer). SaidPart x y r (Some next)) (refusals_told run answers part.0 part.1) part.2.1 in
+    let shown = subst (λ (r : List Answer). SaidPart x y r (Some next)) (refusals_told run answers part.0 part.1.said) part.2.1 in
     (part.2.0, (shown.0, shown.1, subst (λ (z : Option (List ℕ)). Appends x.taken z (text (refusals_in answers) ++ take shown.0 (text_of next))) same shown.2))
 
 -- the answers of the end hold no refusal, so nothing was said

@@ -43,8 +43,9 @@ use Rattle.trace_replay.specs.Spends.{IsQuiet, SpendsAtMost, Spent, fresh, steps
 use Rattle.trace_replay.specs.Theorem.{EndsEarly, EndsPart, EndsRefused, EndsUnread, LeavesLines, LeavesRig, RunsWhole, StandForNext, spent_by}
 use Rattle.trace_replay.proofs.BacksLemmas.{end_reads_few, end_writes_back, end_writes_none, lines_read_no_more, lines_write_back, reads_few, writes_none}
 use Rattle.trace_replay.proofs.CutsLemmas.{counts_none, counts_then}
-use Rattle.trace_replay.proofs.FromLemmas.{takes_from}
-use Rattle.trace_replay.proofs.GivenLemmas.{answers_in-taking, given_left, lines_given-next, lines_given-run, next_left, told_bytes-run}
+use Rattle.trace_replay.proofs.EndLineLemmas.{NoEnd, after_end, after_given, after_nothing, none_front, none_line, none_next, within_end, within_given}
+use Rattle.trace_replay.proofs.FromLemmas.{takes_within}
+use Rattle.trace_replay.proofs.GivenLemmas.{given_left, lines_given-next, lines_given-run, next_left, told_bytes-run}
 use Rattle.trace_replay.proofs.OwingLemmas.{older_owing}
 use Rattle.trace_replay.proofs.RanLemmas.{can_next, can_next_owing, can_some, so_far_none}
 use Rattle.trace_replay.proofs.SpendsLemmas.{run_begun, run_end, run_most, run_then}
@@ -289,7 +290,10 @@ module _ (o : Told) {owes : List BlockWrite → Type 0} (stands : Image → Plai
   }
 
   -- the end line of these counts
-  end_is : answer.End counted.writes counted.reads (length counted.touched.keys) (digest_of counted.touched.keys (disk_after run)) ≡ end_of 0 run
+  abbrev counted_end : Answer
+  counted_end = answer.End counted.writes counted.reads (length counted.touched.keys) (digest_of counted.touched.keys (disk_after run))
+
+  end_is : counted_end ≡ end_of 0 run
   end_is =
       ap (λ n. answer.End n counted.reads (length counted.touched.keys) (digest_of counted.touched.keys (disk_after run))) so_far.tally.writes
       ∙ ap (λ n. answer.End (writes_in run) n (length counted.touched.keys) (digest_of counted.touched.keys (disk_after run))) so_far.tally.reads
@@ -301,12 +305,11 @@ module _ (o : Told) {owes : List BlockWrite → Type 0} (stands : Image → Plai
   module _ {P : Type 0} (tells : P → ScriptState) (came : SourceState → SinkState → List Event → P → Type 0) (broke : SourceState → SinkState → List Event → Event → P → Type 0) (knows : SourceState → P → ℕ → List Reading → Bool → Type 0) (s : SourceState) (b : SinkState) (x y : P) where
     -- if the next line was given
     module _ (l : Line) (come : came s b (events_of run ++ Gave l ∷ []) x) (given : KnowsGiven knows s x (events_of run ++ Gave l ∷ [])) (knew : (lines : ℕ) (all : List Reading) (whole : Bool) → knows s x lines all whole → knows s y lines all whole) where
-      says_next : (answers : List Answer) → Says came x y answers → CameBy came s b y run answers
-      says_next answers says = (Gave l ∷ taking answers, answers_in-taking answers, subst (λ (r : List Event). came s b r y) (append_assoc (events_of run) (Gave l ∷ []) (taking answers)) (says s b (events_of run ++ Gave l ∷ []) come))
+      says_next : (answers : List Answer) → NoEnd answers → Says came x y answers → CameBy came s b y run answers
+      says_next answers no_end says = (Gave l ∷ taking answers, after_given run l answers no_end, subst (λ (r : List Event). came s b r y) (append_assoc (events_of run) (Gave l ∷ []) (taking answers)) (says s b (events_of run ++ Gave l ∷ []) come))
 
-      breaks_next : (answers : List Answer) (next : Option Answer) → Breaks came broke x y answers next → BreaksBy broke s b y run answers next
-      breaks_next answers None breaks = absurd breaks
-      breaks_next answers (Some next) breaks = (Gave l ∷ taking answers, answers_in-taking answers, subst (λ (r : List Event). broke s b r (Took next) y) (append_assoc (events_of run) (Gave l ∷ []) (taking answers)) (breaks s b (events_of run ++ Gave l ∷ []) come))
+      breaks_next : (answers : List Answer) (next : Answer) → NoEnd (answers ++ next ∷ []) → Breaks came broke x y answers (Some next) → BreaksBy broke s b y run answers (Some next)
+      breaks_next answers next no_end breaks = (Gave l ∷ taking answers, within_given run l answers next no_end, subst (λ (r : List Event). broke s b r (Took next) y) (append_assoc (events_of run) (Gave l ∷ []) (taking answers)) (breaks s b (events_of run ++ Gave l ∷ []) come))
 
       given_next : length (lines_given (events_of run ++ Gave l ∷ [])) ≡ length (lines_of run) + 1
       given_next = ap length (lines_given-next run l) ∙ length_push (lines_of run) l
@@ -336,7 +339,11 @@ module _ (o : Told) {owes : List BlockWrite → Type 0} (stands : Image → Plai
           front = took.front;
           rest = took.rest;
           both = took.both;
-          taken = takes_from e (Says came x y) (CameBy came s b y run) (Breaks came broke x y) (BreaksBy broke s b y run) says_next breaks_next took.front took.rest took.taken;
+          taken = takes_within e (Says came x y) (CameBy came s b y run) (Breaks came broke x y) (BreaksBy broke s b y run) (answers_of (as_ran l cuts kept lost) (disk_without lost run))
+              (λ front rest both. says_next front (none_front front rest (subst (λ (r : List Answer). NoEnd r) both (none_line (as_ran l cuts kept lost) (disk_without lost run)))))
+              (λ _ never. absurd never)
+              (λ front next after both. breaks_next front next (none_next front next after (subst (λ (r : List Answer). NoEnd r) both (none_line (as_ran l cuts kept lost) (disk_without lost run)))))
+              took.front took.rest took.both took.taken;
         };
         proper = proper;
         stops = stops_then e took.front c stops;
@@ -382,7 +389,7 @@ module _ (o : Told) {owes : List BlockWrite → Type 0} (stands : Image → Plai
       ends_uncounted now =
           let some = tells_some given.whole (Ok l ∷ given.left) in
           run_part o _ _ _ stands first a ended.Memory (λ is. cc) (λ is. cc)
-          (ends_before (knows s y) (CameBy came s b y) (BreaksBy broke s b y) ended.Memory _ given.all given.whole (Ok l ∷ given.left) some.0 (let many = given_next in omega (arith, many)) (let many = given_next in omega (arith, many)) (knew _ given.all given.whole given.known) left_next some.1 (Gave l ∷ [], refl, now))
+          (ends_before (knows s y) (CameBy came s b y) (BreaksBy broke s b y) ended.Memory _ given.all given.whole (Ok l ∷ given.left) some.0 (let many = given_next in omega (arith, many)) (let many = given_next in omega (arith, many)) (knew _ given.all given.whole given.known) left_next some.1 (Gave l ∷ [], after_given run l [] refl, now))
 
     -- ---- if no line was given
 
@@ -412,7 +419,7 @@ module _ (o : Told) {owes : List BlockWrite → Type 0} (stands : Image → Plai
       trace = subst (λ n. knows s y n next.all next.whole) given_here next.known;
       lines = lines_left next.all (next.next ∷ next.left) (left_here (events_of run) next.all (next.next ∷ next.left) refl next.front);
       why = refused_next run armed next.next next.left cause (armed_is ∙ ap (λ (q : List Stop). length q) so_far.stops) next.why;
-      printed = (taking (refusal_after (events_of run) cause ∷ []), said_is cause, now);
+      printed = (taking (refusal_after (events_of run) cause ∷ []), record { said = said_is cause; end = inl refl; few = inl refl }, now);
       leaves = leaves_lines (next.next ∷ next.left);
     }
 
@@ -423,7 +430,7 @@ module _ (o : Told) {owes : List BlockWrite → Type 0} (stands : Image → Plai
       run = run;
       trace = subst (λ n. knows s y n (map accepted (lines_given (events_of run))) false) given_here known;
       lines = lines_left _ [] (all_given _ refl);
-      printed = ([], refl, now);
+      printed = ([], after_nothing run, now);
       leaves = leaves_lines [];
     }
 
@@ -435,7 +442,7 @@ module _ (o : Told) {owes : List BlockWrite → Type 0} (stands : Image → Plai
         run = run;
         trace = subst (λ n. knows s y n (map accepted (lines_given (events_of run))) true) given_here known;
         lines = lines_left _ [] (all_given _ refl);
-        printed = ([], refl, subst (λ (r : List Event). came s b r y) (sym (append-nil (events_of run))) now);
+        printed = ([], after_nothing run, subst (λ (r : List Event). came s b r y) (sym (append-nil (events_of run))) now);
         leaves = leaves_lines [];
         backs = lines_write_back o run first a v so_far.spent;
         reads_no_more = lines_read_no_more o run first a v so_far.spent;
@@ -451,7 +458,7 @@ module _ (o : Told) {owes : List BlockWrite → Type 0} (stands : Image → Plai
         ends_before (knows s y) (CameBy came s b y) (BreaksBy broke s b y) ended.Sink _ next.all next.whole (next.next ∷ next.left) (refusal run cause) (let many = given_here in omega (arith, many)) (let many = given_here in omega (arith, many)) next.known
         (left_here (events_of run) next.all (next.next ∷ next.left) refl next.front) (may_refuse o run next.whole (next.next ∷ next.left) cause why) (
           [],
-          refl,
+          record { said = refl; no_end = refl; end = λ is. absurd (cc); few = inl refl },
           subst (λ (r : List Event). broke s b r (Took (answer.Refused (length (lines_of run) + 1) cause)) y) (sym (append-nil (events_of run)))
               (subst (λ (ls : List Line). broke s b (events_of run) (Took (answer.Refused (length ls + 1) cause)) y) (lines_given-run run) broken),
         )
@@ -465,7 +472,7 @@ module _ (o : Told) {owes : List BlockWrite → Type 0} (stands : Image → Plai
         (left_here (events_of run) next.all (Ok line.Nothing ∷ next.left) refl next.front) (may_answer o run next.whole line.Nothing next.left [] none) (
           line.Nothing,
           [],
-          refl,
+          record { said = refl; no_end = refl; none = refl },
           subst (λ (r : List Event). broke s b r (Gave line.Nothing) y) (sym (append-nil (events_of run))) broken,
         )
 
@@ -480,24 +487,28 @@ module _ (o : Told) {owes : List BlockWrite → Type 0} (stands : Image → Plai
     pub ends_memory : KnowsGiven knows s y (events_of run ++ []) → came s b (events_of run ++ []) y → EndsPart o (knows s y) (CameBy came s b y) (BreaksBy broke s b y) stands first a ended.Memory
     ends_memory given now =
         let some = tells_some given.whole given.left in
-        ends_before (knows s y) (CameBy came s b y) (BreaksBy broke s b y) ended.Memory _ given.all given.whole given.left some.0 (let many = given_silent in omega (arith, many)) (let many = given_silent in omega (arith, many)) given.known (left_here (events_of run ++ []) given.all given.left (append-nil (events_of run)) given.front) some.1 ([], refl, now)
+        ends_before (knows s y) (CameBy came s b y) (BreaksBy broke s b y) ended.Memory _ given.all given.whole given.left some.0 (let many = given_silent in omega (arith, many)) (let many = given_silent in omega (arith, many)) given.known (left_here (events_of run ++ []) given.all given.left (append-nil (events_of run)) given.front) some.1 ([], after_nothing run, now)
 
     -- ---- the end line
 
     module _ (come : came s b (events_of run) x) (known : KnowsLines knows s x (events_of run) true) (knew : (lines : ℕ) (all : List Reading) (whole : Bool) → knows s x lines all whole → knows s y lines all whole)
         (more : Image → PlainDisk → Type 0) (c : State) (on : c.power.on ≡ true) (shape : c.contents.shape ≡ a.contents.shape) (counts : NeverFall a.counts c.counts) where
-      through : (answers : List Answer) → SaysThrough came x y answers → CameBy came s b y run answers
-      through answers says = says s b (events_of run) come (told_bytes-run run)
+      through : (cuts lost : ℕ) (answers after : List Answer) → end_answers run cuts lost ≡ answers ++ after → SaysThrough came x y (touched_after run) (disk_without lost run) answers → CameBy came s b y run answers
+      through cuts lost answers after both says =
+          let is = says s b (events_of run) come (told_bytes-run run) in
+          (is.0, after_end run cuts lost answers after is.0 both is.1, is.2)
 
-      broken_through : (answers : List Answer) (next : Option Answer) → BreaksThrough came broke x y answers next → BreaksBy broke s b y run answers next
-      broken_through answers None breaks = absurd breaks
-      broken_through answers (Some next) breaks = breaks s b (events_of run) come (told_bytes-run run)
+      broken_through : (cuts lost : ℕ) (answers : List Answer) (next : Answer) (after : List Answer) → end_answers run cuts lost ≡ answers ++ next ∷ after → BreaksThrough came broke x y (touched_after run) (disk_without lost run) answers (Some next)
+          → BreaksBy broke s b y run answers (Some next)
+      broken_through cuts lost answers next after both breaks =
+          let is = breaks s b (events_of run) come (told_bytes-run run) in
+          (is.0, within_end run cuts lost answers next after is.0 both is.1, is.2)
 
       rig_end : (AreUncut run → SpendsAtMost (touches_each (touched_after run) ++ steps_after run) (fresh o) first c) → LeavesRig o first c run run
       rig_end most = record { on = on; shape = shape ∙ so_far.shape; counts = counts_then first.counts a.counts c.counts so_far.counts counts; programs = programs_to c counts; reads = end_reads_few o run first c most; writes = end_writes_none o run first c most so_far.dirty }
 
       -- the end line was said
-      ends_done : (w : VolumeState) (cuts lost : ℕ) → FitsEnd o.ack run cuts lost → StandFor more c.contents (disk_without lost run) → (IsQuiet v a → Spent (touches_each counted.touched.keys) v w a c) → Cuts cuts 0 a c → SaysThrough came x y (end_answers run cuts lost)
+      ends_done : (w : VolumeState) (cuts lost : ℕ) → FitsEnd o.ack run cuts lost → StandFor more c.contents (disk_without lost run) → (IsQuiet v a → Spent (touches_each counted.touched.keys) v w a c) → Cuts cuts 0 a c → SaysThrough came x y (touched_after run) (disk_without lost run) (end_answers run cuts lost)
           → RunsWhole o (knows s y) (CameBy came s b y) more first c
       ends_done w cuts lost fits stood again cut said =
           let spent = run_then o first a v run so_far.spent (touches_each (touched_after run)) w c (λ quiet. subst (λ (keys : List ℕ). Spent (touches_each keys) v w a c) so_far.tally.touched (again quiet)) in
@@ -508,7 +519,7 @@ module _ (o : Told) {owes : List BlockWrite → Type 0} (stands : Image → Plai
             lost = lost;
             trace = subst (λ n. knows s y n (map accepted (lines_given (events_of run))) true) given_here (knew _ _ true known);
             lines = lines_left _ [] (all_given _ refl);
-            printed = through (end_answers run cuts lost) said;
+            printed = through cuts lost (end_answers run cuts lost) [] (sym (append-nil (end_answers run cuts lost))) said;
             leaves = record {
               rig = rig_end (λ uncut. (spent uncut).most);
               fits = fits;
@@ -521,15 +532,17 @@ module _ (o : Told) {owes : List BlockWrite → Type 0} (stands : Image → Plai
           }
 
       pub ends_whole : (w : VolumeState) (cuts : ℕ) → StandFor more c.contents (disk_after run) → (IsQuiet v a → Spent (touches_each counted.touched.keys) v w a c) → Cuts cuts 0 a c
-          → SaysThrough came x y (stopped cuts ++ answer.End counted.writes counted.reads (length counted.touched.keys) (digest_of counted.touched.keys (disk_after run)) ∷ [])
+          → SaysThrough came x y counted.touched.keys (disk_after run) (stopped cuts ++ answer.End counted.writes counted.reads (length counted.touched.keys) (digest_of counted.touched.keys (disk_after run)) ∷ [])
           → RunsWhole o (knows s y) (CameBy came s b y) more first c
       ends_whole w cuts stood again cut said =
           ends_done w cuts 0 (record { few = subst (λ (q : List Stop). cuts ≤ length q) so_far.stops cut.few; cut = λ _. refl; losses = none_lost o.ack run }) (subst (λ (d : PlainDisk). StandFor more c.contents d) (sym (disk_without-none 0 run refl)) stood) again cut
-          (subst (λ (z : Answer). SaysThrough came x y (stopped cuts ++ z ∷ [])) end_is said)
+          (subst (λ (z : Answer). SaysThrough came x y (touched_after run) (disk_without 0 run) (stopped cuts ++ z ∷ [])) end_is
+          (subst (λ (d : PlainDisk). SaysThrough came x y (touched_after run) d (stopped cuts ++ counted_end ∷ [])) (sym (disk_without-none 0 run refl))
+          (subst (λ (keys : List ℕ). SaysThrough came x y keys (disk_after run) (stopped cuts ++ counted_end ∷ [])) so_far.tally.touched said)))
 
       -- the run ended within the end line
       ends_last : (e : Ended) (cuts lost : ℕ) → FitsEnd o.ack run cuts lost → ((left : List Reading) → StandForNext o more c.contents run left) → (IsQuiet v a → SpendsAtMost (touches_each counted.touched.keys) v a c)
-          → (took : TookPart e (SaysThrough came x y) (BreaksThrough came broke x y) (end_answers run cuts lost)) → (took.rest ≡ [] → ⊥) → TellsStops e took.front 0 a c a.power.stops
+          → (took : TookPart e (SaysThrough came x y (touched_after run) (disk_without lost run)) (BreaksThrough came broke x y (touched_after run) (disk_without lost run)) (end_answers run cuts lost)) → (took.rest ≡ [] → ⊥) → TellsStops e took.front 0 a c a.power.stops
           → EndsPart o (knows s y) (CameBy came s b y) (BreaksBy broke s b y) more first c e
       ends_last e cuts lost fits media again took proper stops = record {
         all = map accepted (lines_given (events_of run));
@@ -547,7 +560,8 @@ module _ (o : Told) {owes : List BlockWrite → Type 0} (stands : Image → Plai
           front = took.front;
           rest = took.rest;
           both = took.both;
-          taken = takes_from e (SaysThrough came x y) (CameBy came s b y run) (BreaksThrough came broke x y) (BreaksBy broke s b y run) through broken_through took.front took.rest took.taken;
+          taken = takes_within e (SaysThrough came x y (touched_after run) (disk_without lost run)) (CameBy came s b y run) (BreaksThrough came broke x y (touched_after run) (disk_without lost run)) (BreaksBy broke s b y run) (end_answers run cuts lost)
+              (through cuts lost) (λ _ never. absurd never) (broken_through cuts lost) took.front took.rest took.both took.taken;
         };
         proper = λ none. absurd (proper none);
         stops = stops_then e took.front c stops;
@@ -555,11 +569,17 @@ module _ (o : Told) {owes : List BlockWrite → Type 0} (stands : Image → Plai
         rig = spent_any o.ack run c [] (rig_end (run_end o first a v run so_far.spent (touches_each (touched_after run)) c (λ quiet. subst (λ (keys : List ℕ). SpendsAtMost (touches_each keys) v a c) so_far.tally.touched (again quiet))));
       }
 
+      -- the answers of the end were taken, but not all
+      abbrev EndsBy : Ended → List ℕ → PlainDisk → ℕ → Answer → Type 0
+      EndsBy e keys d cuts z = (took : TookPart e (SaysThrough came x y keys d) (BreaksThrough came broke x y keys d) (stopped cuts ++ z ∷ [])) × (took.rest ≡ [] → ⊥) × TellsStops e took.front 0 a c a.power.stops
+
       pub ends_end : (e : Ended) → StandFor more c.contents (disk_after run) → (IsQuiet v a → SpendsAtMost (touches_each counted.touched.keys) v a c)
-          → EndsEnd tells came broke knows e x y a c (answer.End counted.writes counted.reads (length counted.touched.keys) (digest_of counted.touched.keys (disk_after run)))
+          → EndsEnd tells came broke knows e x y a c counted.touched.keys (disk_after run) (answer.End counted.writes counted.reads (length counted.touched.keys) (digest_of counted.touched.keys (disk_after run)))
           → EndsPart o (knows s y) (CameBy came s b y) (BreaksBy broke s b y) more first c e
       ends_end e stood again ends =
-          let there = subst (λ (z : Answer). (took : TookPart e (SaysThrough came x y) (BreaksThrough came broke x y) (stopped ends.cuts ++ z ∷ [])) × (took.rest ≡ [] → ⊥) × TellsStops e took.front 0 a c a.power.stops) end_is (ends.part, ends.proper, ends.stops) in
+          let there = subst (λ (z : Answer). EndsBy e (touched_after run) (disk_without 0 run) ends.cuts z) end_is
+          (subst (λ (d : PlainDisk). EndsBy e (touched_after run) d ends.cuts counted_end) (sym (disk_without-none 0 run refl))
+          (subst (λ (keys : List ℕ). EndsBy e keys (disk_after run) ends.cuts counted_end) so_far.tally.touched (ends.part, ends.proper, ends.stops))) in
           ends_last e ends.cuts 0 (record { few = subst (λ (q : List Stop). ends.cuts ≤ length q) so_far.stops ends.few; cut = λ _. refl; losses = none_lost o.ack run }) (λ left. media_none o more c.contents run left stood) again
           there.0 there.1 there.2
 

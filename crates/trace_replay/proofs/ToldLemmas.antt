@@ -53,12 +53,16 @@ module _ (says : Answer → Bool) (skips : SkipsLines says) where
   none_then : (xs ys : List Answer) → filter says xs ≡ [] → filter says ys ≡ [] → filter says (xs ++ ys) ≡ []
   none_then xs ys first next = filter-append says xs ys ∙ ap (λ (r : List Answer). r ++ filter says ys) first ∙ next
 
+  pub none_answers : (ran : Ran) (disk : PlainDisk) → filter says (answers_of ran disk) ≡ []
+  none_answers ran disk =
+      none_then (stopped ran.cuts) (lost_told ran.lost ++ own_answers ran.line ran.cuts ran.kept disk) (none_stopped ran.cuts)
+      (none_then (lost_told ran.lost) (own_answers ran.line ran.cuts ran.kept disk) (none_lost ran.lost) (none_own ran.line ran.cuts ran.kept disk))
+
   none_told : (run : List Ran) → filter says (told run) ≡ []
   none_told [] = refl
   none_told (ran ∷ earlier) =
       let disk = disk_without ran.lost earlier in
-      none_then (told earlier) (answers_of ran disk) (none_told earlier) (none_then (stopped ran.cuts) (lost_told ran.lost ++ own_answers ran.line ran.cuts ran.kept disk) (none_stopped ran.cuts)
-      (none_then (lost_told ran.lost) (own_answers ran.line ran.cuts ran.kept disk) (none_lost ran.lost) (none_own ran.line ran.cuts ran.kept disk)))
+      none_then (told earlier) (answers_of ran disk) (none_told earlier) (none_answers ran disk)
 
   -- so all that is said of a run comes after its lines
   pub said_of : (run : List Ran) (answers : List Answer) (more : List Event) → answers_in more ≡ answers → filter says (answers_in (events_of run ++ more)) ≡ filter says answers

@@ -16,7 +16,7 @@ use Rattle.trace_model.specs.Backs.{IsUncut}
 use Rattle.trace_model.specs.Fits.{FitsLine, FitsLost, block_count, is_cut, kept_since_flush}
 use Rattle.trace_model.specs.Lost.{IsLeastLost}
 use Rattle.trace_model.specs.Readings.{Reading}
-use Rattle.trace_model.specs.Run.{answers_of, disk_without, disk_written, end_answers, read_backs, with_blocks, with_line, writes_after}
+use Rattle.trace_model.specs.Run.{answers_of, disk_without, disk_written, end_answers, read_backs, touched_after, with_blocks, with_line, writes_after}
 use Rattle.trace_model.specs.SoFar.{as_ran}
 use Rattle.trace_replay.specs.declared.ended.Ended.{Ended}
 use Rattle.trace_replay.specs.declared.recent.Recent.{Recent}
@@ -146,7 +146,7 @@ pub record SpendsOwing {T E : Type 0} (line : Line) (v w : VolumeState) (before 
 -- writes
 pub record IsFlushed {P : Type 0} (came : SourceState → SinkState → List Event → P → Type 0) (x y : P) (stands : Image → PlainDisk → Type 0)
     (contents : Contents) (cuts lost : ℕ) (run : List Ran) : Type 0 where
-  pub said : SaysThrough came x y (end_answers run cuts lost)
+  pub said : SaysThrough came x y (touched_after run) (disk_without lost run) (end_answers run cuts lost)
   pub cut : cuts ≡ 0 → lost ≡ 0
   pub losses : FitsLost ack.Flush run lost
   pub disk : StandFor stands contents (disk_without lost run)
@@ -173,6 +173,7 @@ module _ {P : Type 0} (tells : P → ScriptState) (came : SourceState → SinkSt
     pub few : cuts ≤ length old.power.stops
     pub cut : cuts ≡ 0 → lost ≡ 0
     pub losses : FitsLost ack.Flush run lost
-    pub part : TookPart e (SaysThrough came x y) (BreaksThrough came broke x y) (end_answers run cuts lost)
+    pub part : TookPart e (SaysThrough came x y (touched_after run) (disk_without lost run))
+        (BreaksThrough came broke x y (touched_after run) (disk_without lost run)) (end_answers run cuts lost)
     pub proper : part.rest ≡ [] → ⊥
     pub stops : TellsStops e part.front 0 old new old.power.stops

@@ -1,6 +1,7 @@
-use Rattle.std.proofs.Common.{codes}
+use Rattle.std.proofs.Common.{codes, refl}
 use Rattle.command_line.proofs.DeviceLemmas.{same_over}
 use Rattle.command_line.proofs.ValueLemmas.{apart, costed_apart, costed_inspected, costed_made, costed_swept, inspected_apart, inspected_made, same_command, same_gen, same_read, same_replayed, same_spelling, same_sweep, swept_apart, swept_inspected, swept_made}
+use Rattle.command_line.specs.Command.{cost_names}
 use Rattle.command_line.proofs.laws.command_law.Goals as goal
 
 pub returns-clause-replay : goal.returns-clause-replay
@@ -10,7 +11,7 @@ pub returns-clause-form : goal.returns-clause-form
 returns-clause-form c = same_spelling
 
 pub returns-clause-costed : goal.returns-clause-costed
-returns-clause-costed c = same_read (codes "cost")
+returns-clause-costed c = same_read cost_names refl (codes "cost")
 
 pub returns-clause-costed_apart : goal.returns-clause-costed_apart
 returns-clause-costed_apart c = costed_apart

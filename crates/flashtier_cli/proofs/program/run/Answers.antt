@@ -1,6 +1,9 @@
 use Rattle.command_line.specs.declared.devices.FlashKind.TheVariants.{Plain}
-use Rattle.flashtier_cli.proofs.WordsLemmas.{none_spoken, raw_refused, spoken_is, words_ran, words_refused}
+use Rattle.flashtier_cli.proofs.WordsLemmas.{disks_spoken, none_spoken, raw_refused, spoken_is, words_ran, words_refused}
 use Rattle.flashtier_cli.proofs.program.run.Goals as goal
+
+pub run_over-requires : goal.run_over-requires
+run_over-requires g c = disks_spoken _ c.in-Some.spoken (spoken_is _ _ _ c.in-Some.is c.in-Ok.ensures.command)
 
 pub returns-in_default-spoken : goal.returns-in_default-spoken
 returns-in_default-spoken g c =

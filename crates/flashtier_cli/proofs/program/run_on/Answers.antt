@@ -1,6 +1,6 @@
 use Rattle.std.proofs.Common.{refl}
 use Rattle.command_line.specs.declared.devices.FlashKind.TheVariants.{Plain, Raw}
-use Rattle.flashtier_cli.proofs.WordsLemmas.{none_spoken, plain_spoken, raw_spoken, spoken_is, words_ran, words_refused, words_unread}
+use Rattle.flashtier_cli.proofs.WordsLemmas.{disks_spoken, none_spoken, plain_spoken, raw_spoken, spoken_is, words_ran, words_refused, words_unread}
 use Rattle.flashtier_cli.proofs.program.run_on.Goals as goal
 
 -- ---- words that aren't read
@@ -22,6 +22,9 @@ returns-in_default-spoken-clause-raw g c =
 
 -- ---- plain flash
 
+pub run_over-requires : goal.run_over-requires
+run_over-requires g c = disks_spoken _ c.in-Some.spoken (spoken_is _ _ _ c.in-Some.is c.in-Ok.ensures.command)
+
 pub returns-in-Plain-clause-plain : goal.returns-in-Plain-clause-plain
 returns-in-Plain-clause-plain g c = λ _. (refl, words_ran Plain _ c.in-Some.spoken _ _ _ _ _ _ _ _ _ _ _ _ _ (spoken_is _ _ _ c.in-Some.is c.in-Ok.ensures.command) c.in-Plain.is c.run_over.ensures)
 
@@ -29,6 +32,9 @@ pub returns-in-Plain-clause-raw : goal.returns-in-Plain-clause-raw
 returns-in-Plain-clause-raw g c = λ over. absurd (plain_spoken _ c.in-Some.spoken (spoken_is _ _ _ c.in-Some.is c.in-Ok.ensures.command) c.in-Plain.is over)
 
 -- ---- raw flash
+
+pub run_sealed-requires : goal.run_sealed-requires
+run_sealed-requires g c = disks_spoken _ c.in-Some.spoken (spoken_is _ _ _ c.in-Some.is c.in-Ok.ensures.command)
 
 pub returns-in-Raw-clause-plain : goal.returns-in-Raw-clause-plain
 returns-in-Raw-clause-plain g c = λ none. absurd (none (raw_spoken _ c.in-Some.spoken (spoken_is _ _ _ c.in-Some.is c.in-Ok.ensures.command) c.in-Raw.is))

@@ -5,8 +5,8 @@ use Rattle.flashtier_cli.proofs.running.run_command.Goals as goal
 
 pub returns-in-Replay : goal.returns-in-Replay
 returns-in-Replay g c =
-    let run = c.replay_spelled.ensures in
-    rw c.in-Replay.is (runs_read (Replay _ _ _) c.replay_spelled.result _ c.status_of.ensures _ _ _ _ _ _ _ _ _ _ _ _ (λ made. made) (elim run.ends [ inl none ↦ inl (tt, none) | inr ends ↦ inr ends ]) run.end run.causes (λ other. inl (run.on other)) run.lent)
+    let run = c.replay_over.ensures in
+    rw c.in-Replay.is (runs_read (Replay _ _ _ _) c.replay_over.result _ c.status_of.ensures _ _ _ _ _ _ _ _ _ _ _ _ (λ made. made) (elim run.ends [ inl none ↦ inl (tt, none) | inr ends ↦ inr ends ]) run.end run.causes (λ other. inl (run.on other)) run.lent)
 
 pub returns-in-Cost : goal.returns-in-Cost
 returns-in-Cost g c =

@@ -23,7 +23,7 @@ returns-in-Ok-clause-ends g c =
       runs_from told _ _ _ _ _ _
           (known_by g.F.LineForm.says script.reader.size told.geometry.size a (g.I.Source.state script.source.now) _ size (search (rules, same_source)))
           (λ y d stood. stood) _ _ runs
-          (told_refusal x (g.O.Sink.state script.sink.now) _ (search (rules, same_sink)) runs.run [] runs.printed.0 runs.printed.1 runs.printed.2.0.0.said),
+          (told_refusal x (g.O.Sink.state script.sink.now) _ (search (rules, same_sink)) runs.run [] runs.printed.0 runs.printed.1.said runs.printed.2.0.0.said),
       asked_run runs.run c.run_script.new.script.asked ends.1.1,
     )
 
@@ -39,7 +39,7 @@ returns-in-Err-clause-ends g c =
     let size : script.reader.size ≡ told.geometry.size = c.run_script.ensures.goes.size ∙ c.new-stream.ensures.size ∙ c.size.ensures in
     early_from told _ _ _ _ _ _ _ _ _
     (known_by g.F.LineForm.says script.reader.size told.geometry.size a (g.I.Source.state script.source.now) _ size (search (rules, same_source)))
-    (λ run answers says. told_refusal x (g.O.Sink.state script.sink.now) _ (search (rules, same_sink)) run answers says.0 says.1 says.2.0.0.said)
+    (λ run answers says. told_refusal x (g.O.Sink.state script.sink.now) _ (search (rules, same_sink)) run answers says.0 says.1.said says.2.0.0.said)
     (λ y d stood. stood)
     (before_itself _)
     _ _ (shown_refusal x (g.O.Sink.state script.sink.now) _ (search (rules, same_sink)))

@@ -1,10 +1,11 @@
-use Rattle.std.proofs.Common.{◌+◌, ◌++◌, ◌∷◌, [], List, refl, ap, ◌∙◌, subst, append_assoc, arith}
+use Rattle.std.proofs.Common.{◌+◌, ◌++◌, ◌∷◌, [], ℕ, List, refl, ap, ◌∙◌, subst, append_assoc, arith}
 use Rattle.ft_base.specs.PlainDisk.{PlainDisk}
 use Rattle.trace_model.specs.declared.answer.Answer.{Answer}
-use Rattle.trace_model.specs.Run.{disk_without, lost_told, stopped}
+use Rattle.trace_model.specs.Run.{disk_without, end_answers, lost_told, stopped}
 use Rattle.trace_replay.specs.Ends.{SaysThrough}
 use Rattle.trace_replay.specs.Spends.{touches_each}
 use Rattle.trace_replay.proofs.CutsLemmas.{cuts_then}
+use Rattle.trace_replay.proofs.EndLineLemmas.{none_before}
 use Rattle.trace_replay.proofs.ExitLemmas.{at_exit}
 use Rattle.trace_replay.proofs.LaterLemmas.{flush_stands}
 use Rattle.trace_replay.proofs.OwingLastLemmas.{end_tally, flush_ended, last_ended, last_said, last_unsaid, losses_ended, reads_ended, touched_after_cuts, touched_then}
@@ -31,7 +32,7 @@ returns-in_err-more-clause-ends g c = at_exit c.from_residual-in_err-more.result
     let lost = c.in_ok-settled.settled.lost in
     let d : PlainDisk = disk_without lost run in
     let stood = flush_stands _ (g.V.Volume.stands (g.V.Volume.state c.flush_later.new.volume).told) _ _ run became c.in_ok-settled.ensures.forgot in
-    reads_ended g.P.Script.state g.P.Script.came g.P.Script.broke g.P.Script.knows c.in_err-more.field-0.0 _ c.flush_later.new.script _ _ _ _ run c.in_ok-settled.settled.cuts lost (became.cut refl) became.losses c.in_ok-settled.ensures.went.done
+    reads_ended g.P.Script.state g.P.Script.came g.P.Script.broke g.P.Script.knows c.in_err-more.field-0.0 _ c.flush_later.new.script _ _ _ _ run c.in_ok-settled.settled.cuts lost c.args.tally.now.touched.keys tally.touched (became.cut refl) became.losses c.in_ok-settled.ensures.went.done
     (λ end. c.in_err-more.ensures.ends d stood end))
 
 pub returns-in_err-more-clause-images : goal.returns-in_err-more-clause-images
@@ -58,7 +59,7 @@ returns-in_err-say_losses-clause-ends g c = at_exit c.from_residual-in_err-say_l
     let stood = flush_stands _ (g.V.Volume.stands (g.V.Volume.state c.flush_later.new.volume).told) _ _ run became c.in_ok-settled.ensures.forgot in
     let touched = touched_after_cuts g.P.Script.state g.P.Script.came g.P.Script.broke g.P.Script.knows c.args.script.now c.flush_later.new.script c.tell_touched.new.script c.in_ok-settled.settled.cuts c.in_ok-more.more c.args.tally.now.touched.keys d c.in_ok-settled.ensures.went.done.said (c.in_ok-more.ensures.said d stood) in
     let cuts = cuts_then c.in_ok-settled.settled.cuts c.in_ok-more.more 0 0 _ _ _ c.in_ok-settled.ensures.went.done.cut c.in_ok-more.ensures.cuts in
-    losses_ended g.P.Script.state g.P.Script.came g.P.Script.broke g.P.Script.knows c.in_err-say_losses.field-0.0 c.args.script.now c.tell_touched.new.script c.say_losses.new.script _ _ run (c.in_ok-settled.settled.cuts + c.in_ok-more.more) lost c.args.tally.now.touched.keys d (λ none. became.cut refl (omega (arith, none))) became.losses touched
+    losses_ended g.P.Script.state g.P.Script.came g.P.Script.broke g.P.Script.knows c.in_err-say_losses.field-0.0 c.args.script.now c.tell_touched.new.script c.say_losses.new.script _ _ run (c.in_ok-settled.settled.cuts + c.in_ok-more.more) lost c.args.tally.now.touched.keys (λ none. became.cut refl (omega (arith, none))) became.losses touched
     (goes_then g.P.Script.state g.P.Script.came g.P.Script.broke g.P.Script.knows _ _ _ _ _ _ c.flush_later.ensures.went.goes c.tell_touched.ensures.goes) cuts c.in_err-say_losses.ensures.ended)
 
 pub returns-in_err-say_losses-clause-images : goal.returns-in_err-say_losses-clause-images
@@ -86,9 +87,9 @@ returns-in_err-end-clause-ends g c = at_exit c.from_residual-in_err-end.result _
     let touched = touched_after_cuts g.P.Script.state g.P.Script.came g.P.Script.broke g.P.Script.knows c.args.script.now c.flush_later.new.script c.tell_touched.new.script c.in_ok-settled.settled.cuts c.in_ok-more.more c.args.tally.now.touched.keys d c.in_ok-settled.ensures.went.done.said (c.in_ok-more.ensures.said d stood) in
     let cuts = cuts_then c.in_ok-settled.settled.cuts c.in_ok-more.more 0 0 _ _ _ c.in_ok-settled.ensures.went.done.cut c.in_ok-more.ensures.cuts in
     let after = touched_then g.P.Script.state g.P.Script.came g.P.Script.broke g.P.Script.knows c.args.script.now c.tell_touched.new.script c.say_losses.new.script (stopped (c.in_ok-settled.settled.cuts + c.in_ok-more.more)) (lost_told lost) c.args.tally.now.touched.keys d touched c.in_ok-say_losses.ensures.done in
-    last_ended g.P.Script.state g.P.Script.came g.P.Script.broke g.P.Script.knows c.in_err-end.field-0.0 c.args.script.now c.say_losses.new.script c.end.new.self _ _ run (c.in_ok-settled.settled.cuts + c.in_ok-more.more) lost _ (λ none. became.cut refl (omega (arith, none))) became.losses (end_tally run c.args.tally.now lost tally)
+    last_ended g.P.Script.state g.P.Script.came g.P.Script.broke g.P.Script.knows c.in_err-end.field-0.0 c.args.script.now c.say_losses.new.script c.end.new.self _ _ run (c.in_ok-settled.settled.cuts + c.in_ok-more.more) lost c.args.tally.now.touched.keys _ tally.touched (λ none. became.cut refl (omega (arith, none))) became.losses (end_tally run c.args.tally.now lost tally)
     (goes_script g.P.Script.state g.P.Script.came g.P.Script.broke g.P.Script.knows _ _ _ _ _ (goes_then g.P.Script.state g.P.Script.came g.P.Script.broke g.P.Script.knows _ _ _ _ _ _ c.flush_later.ensures.went.goes c.tell_touched.ensures.goes) c.say_losses.ensures.goes) cuts
-    (last_unsaid g.P.Script.state g.P.Script.came g.P.Script.broke g.P.Script.knows c.args.script.now c.say_losses.new.script c.end.new.self _ c.args.tally.now.touched.keys d after _ _ c.len-touched.result c.len-touched.ensures.len c.in_err-end.field-0.0 c.in_err-end.ensures.sink c.in_err-end.ensures.memory c.in_err-end.ensures.only))
+    (last_unsaid g.P.Script.state g.P.Script.came g.P.Script.broke g.P.Script.knows c.args.script.now c.say_losses.new.script c.end.new.self _ (none_before (c.in_ok-settled.settled.cuts + c.in_ok-more.more) lost) c.args.tally.now.touched.keys d after _ _ c.len-touched.result c.len-touched.ensures.len c.in_err-end.field-0.0 c.in_err-end.ensures.sink c.in_err-end.ensures.memory c.in_err-end.ensures.only))
 
 pub returns-in_err-end-clause-images : goal.returns-in_err-end-clause-images
 returns-in_err-end-clause-images g c = λ run o stops.
@@ -115,10 +116,11 @@ returns-clause-flushed g c = λ run o stops tally.
     let stood = flush_stands _ (g.V.Volume.stands (g.V.Volume.state c.flush_later.new.volume).told) _ _ run became c.in_ok-settled.ensures.forgot in
     let touched = touched_after_cuts g.P.Script.state g.P.Script.came g.P.Script.broke g.P.Script.knows c.args.script.now c.flush_later.new.script c.tell_touched.new.script c.in_ok-settled.settled.cuts c.in_ok-more.more c.args.tally.now.touched.keys d c.in_ok-settled.ensures.went.done.said (c.in_ok-more.ensures.said d stood) in
     let after = touched_then g.P.Script.state g.P.Script.came g.P.Script.broke g.P.Script.knows c.args.script.now c.tell_touched.new.script c.say_losses.new.script (stopped (c.in_ok-settled.settled.cuts + c.in_ok-more.more)) (lost_told lost) c.args.tally.now.touched.keys d touched c.in_ok-say_losses.ensures.done in
-    let said = last_said g.P.Script.state g.P.Script.came g.P.Script.broke g.P.Script.knows c.args.script.now c.say_losses.new.script c.end.new.self _ c.args.tally.now.touched.keys d after _ _ c.len-touched.result c.len-touched.ensures.len c.in_ok-end.ensures.taken in
+    let said = last_said g.P.Script.state g.P.Script.came g.P.Script.broke g.P.Script.knows c.args.script.now c.say_losses.new.script c.end.new.self _ (none_before (c.in_ok-settled.settled.cuts + c.in_ok-more.more) lost) c.args.tally.now.touched.keys d after _ _ c.len-touched.result c.len-touched.ensures.len c.in_ok-end.ensures.taken in
     record {
-      said = subst (λ (l : List Answer). SaysThrough g.P.Script.came c.args.script.now c.end.new.self l)
-          (append_assoc (stopped (c.in_ok-settled.settled.cuts + c.in_ok-more.more)) (lost_told lost) _ ∙ ap (λ (k : Answer). stopped (c.in_ok-settled.settled.cuts + c.in_ok-more.more) ++ (lost_told lost ++ k ∷ [])) (end_tally run c.args.tally.now lost tally)) said;
+      said = subst (λ (keys : List ℕ). SaysThrough g.P.Script.came c.args.script.now c.end.new.self keys d (end_answers run (c.in_ok-settled.settled.cuts + c.in_ok-more.more) lost)) tally.touched
+          (subst (λ (l : List Answer). SaysThrough g.P.Script.came c.args.script.now c.end.new.self c.args.tally.now.touched.keys d l)
+          (append_assoc (stopped (c.in_ok-settled.settled.cuts + c.in_ok-more.more)) (lost_told lost) _ ∙ ap (λ (k : Answer). stopped (c.in_ok-settled.settled.cuts + c.in_ok-more.more) ++ (lost_told lost ++ k ∷ [])) (end_tally run c.args.tally.now lost tally)) said);
       cut = λ none. became.cut refl (omega (arith, none));
       losses = became.losses;
       disk = c.tell_touched.ensures.kept d stood;

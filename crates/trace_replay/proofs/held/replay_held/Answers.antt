@@ -33,7 +33,7 @@ returns-clause-ends g c =
     let x = g.O.Sink.state c.args.sink.now in
     ends_from (g.V.Volume.state c.args.volume.now).told _ _ _ _ _ _ _ _ _
     (λ n all w gives. subst (λ (ls : List Line). Gives ls n all w) (lines_same (c.args.first.now ++ c.args.lines.now)) gives)
-    (λ run answers says. told_by x (g.O.Sink.state c.replay_script.new.script.sink.now) _ (search rules) run answers says.0 says.1 says.2.0.said)
+    (λ run answers says. told_by x (g.O.Sink.state c.replay_script.new.script.sink.now) _ (search rules) run answers says.0 says.1.said says.2.0.said)
     (λ y d stood. stood)
     (before_itself _)
     _ _ (shown_by x (g.O.Sink.state c.replay_script.new.script.sink.now) _ (search rules))

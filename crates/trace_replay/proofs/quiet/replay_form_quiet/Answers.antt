@@ -17,7 +17,7 @@ returns-clause-ends g c =
     let size : script.reader.size ≡ told.geometry.size = c.replay_script.ensures.goes.size ∙ c.new-stream.ensures.size ∙ c.size.ensures in
     ends_from told _ _ _ _ _ _ _ _ _
     (known_by g.F.LineForm.says script.reader.size told.geometry.size a (g.I.Source.state script.source.now) _ size (search (rules, same_source)))
-    (λ run answers says. told_refusal x (g.O.Sink.state script.sink.now) _ (search (rules, same_sink)) run answers says.0 says.1 says.2.0.said)
+    (λ run answers says. told_refusal x (g.O.Sink.state script.sink.now) _ (search (rules, same_sink)) run answers says.0 says.1.said says.2.0.said)
     (λ y d stood. stood)
     (before_itself _)
     _ _ (shown_refusal x (g.O.Sink.state script.sink.now) _ (search (rules, same_sink)))
@@ -31,7 +31,7 @@ returns-clause-silent g c =
     let apart = lent_apart _ _ _ _ _ _ _ _ c.replay_script.ensures.goes.script_lent in
     let same_sink : script.sink.ghost_name ≡ c.new-stream.result.sink.ghost_name = apart.1 in
     whole_at _ _ _ _ _ _ _ c.replay_script.result (λ ran.
-    told_nothing x.taken _ ran.run ran.cuts ran.lost (told_refusal x (g.O.Sink.state script.sink.now) _ (search (rules, same_sink)) ran.run _ ran.printed.0 ran.printed.1 ran.printed.2.0.said))
+    told_nothing x.taken _ ran.run ran.cuts ran.lost (told_refusal x (g.O.Sink.state script.sink.now) _ (search (rules, same_sink)) ran.run _ ran.printed.0 ran.printed.1.said ran.printed.2.0.said))
     (c.replay_script.ensures.ends a x c.new-stream.ensures.came)
 
 pub returns-clause-causes : goal.returns-clause-causes

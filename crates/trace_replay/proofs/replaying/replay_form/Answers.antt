@@ -16,7 +16,7 @@ returns-clause-ends g c =
     let size : script.reader.size ≡ told.geometry.size = c.replay_script.ensures.goes.size ∙ c.new-script.ensures.size ∙ c.size.ensures in
     ends_from told _ _ _ _ _ _ _ _ _
     (known_by g.F.LineForm.says script.reader.size told.geometry.size a (g.I.Source.state script.source.now) _ size (search (rules, same_source)))
-    (λ run answers says. told_by x (g.O.Sink.state script.sink.now) _ (search (rules, same_sink)) run answers says.0 says.1 says.2.0.said)
+    (λ run answers says. told_by x (g.O.Sink.state script.sink.now) _ (search (rules, same_sink)) run answers says.0 says.1.said says.2.0.said)
     (λ y d stood. stood)
     (before_itself _)
     _ _ (shown_by x (g.O.Sink.state script.sink.now) _ (search (rules, same_sink)))

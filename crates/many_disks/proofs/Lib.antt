@@ -1,0 +1,16 @@
+pub mod AloneLemmas
+pub mod FitsLemmas
+pub mod FollowLemmas
+pub mod LineLemmas
+pub mod NextLemmas
+pub mod OwnLemmas
+pub mod PrintedLemmas
+pub mod PrintingLemmas
+pub mod ReadLemmas
+pub mod ReplayLemmas
+pub mod RunnableLemmas
+pub mod SayLemmas
+pub mod ScriptLemmas
+pub mod TallyLemmas
+pub mod TellLemmas
+pub mod WhileLemmas
