@@ -87,11 +87,12 @@ unarmed_lines lines all = none_held lines (recursion_from_All IsUncut lines all)
 
 pub counts_whole : {o : Told} {lines : List Line} {says : List Ran → List Answer → Type 0} {stands : Image → PlainDisk → Type 0} {first now : State} (count : ℕ)
     → All IsUncut lines → RunsWhole o (Gives lines) says stands first now → device_writes now.counts ≡ device_writes first.counts + count → now.counts.programs < last_count
-    → CountsFrom lines count first now
+    → CountsFrom o lines count first now
 counts_whole {lines = lines} {first = first} {now = now} count uncut ran exact below =
     let given : lines_of ran.run ≡ lines = same_lines (lines_of ran.run) lines (sym (append-nil (map accepted (lines_of ran.run))) ∙ sym ran.lines.lines ∙ ran.trace.0) in
     let all : AllByRecursion IsUncut (lines_of ran.run) = subst (AllByRecursion IsUncut) (sym given) (recursion_from_All IsUncut lines uncut) in
-    let wrote : wrote_in ran.run ≡ blocks_written lines = wrote_all _ ran.run ran.lines.fits (uncut_of ran.run all) ∙ ap blocks_written given in
+    let are : AreUncut ran.run = uncut_of ran.run all in
+    let wrote : wrote_in ran.run ≡ blocks_written lines = wrote_all _ ran.run ran.lines.fits are ∙ ap blocks_written given in
     let never = ran.leaves.rig.counts in
     let programs = ran.leaves.rig.programs below in
     let risen = ran.leaves.risen in
@@ -103,6 +104,9 @@ counts_whole {lines = lines} {first = first} {now = now} count uncut ran exact b
           let writes = never.disk_writes in
           let flushes = never.disk_flushes in
           omega (arith, exact, wrote, programs, erases, writes, flushes);
+      run = ran.run;
+      given = given;
+      backs = ran.backs.exact are;
       cuts = λ low. (let rose = risen low in omega (arith, rose));
     }
 
@@ -118,8 +122,12 @@ made_new mode kind options is {old = old} {made = made} new = subst (λ (m : Mod
 })
 
 pub counted_new : (mode kind : Mode) (options : Options) (is : mode ≡ kind) {owns : Contents → Type 0} {owes : Contents → List BlockWrite → Type 0} {v : VolumeState} {old made now : State} {lines : List Line} {count : ℕ}
-    → IsNewVolume (told_for kind options) owns owes v old made → CountsFrom lines count made now → CountsWrites (told_for mode options) lines count old now
-counted_new mode kind options is {made = made} new from = record { made = made; new = made_new mode kind options is new; from = from }
+    → IsNewVolume (told_for kind options) owns owes v old made → CountsFrom v.told lines count made now → CountsWrites (told_for mode options) lines count old now
+counted_new mode kind options is {made = made} {now = now} {lines = lines} {count = count} new from = record {
+  made = made;
+  new = made_new mode kind options is new;
+  from = subst (λ (o : Told). CountsFrom o lines count made now) (new.told ∙ ap (λ (m : Mode). told_for m options) (sym is)) from;
+}
 
 -- ---- whatever it answers
 

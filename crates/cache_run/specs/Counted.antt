@@ -2,14 +2,17 @@
 use Rattle.std.proofs.Common.{arith}
 use Rattle.std.specs.Prelude.{◌≡◌, ◌≤◌, ◌+◌, ℕ, true, List, sum_by, []}
 use Rattle.cache_model.specs.Stands.{ImageStandsFor}
-use Rattle.ft_base.specs.Count.{last_count}
+use Rattle.ft_base.specs.Count.{RoseBy, last_count}
 use Rattle.ft_base.specs.PlainDisk.{empty}
 use Rattle.ft_base.specs.Told.{Told}
 use Rattle.ft_media.specs.Passes.{NeverFall, device_writes}
 use Rattle.ft_media.specs.State.{State}
 use Rattle.ft_volume.specs.Standing.{StandFor}
+use Rattle.trace_model.specs.Backs.{backs_in}
 use Rattle.trace_model.specs.declared.line.Line.{Line}
+use Rattle.trace_model.specs.declared.ran.Ran.{Ran}
 use Rattle.trace_model.specs.Fits.{block_count}
+use Rattle.trace_model.specs.Run.{lines_of}
 use Rattle.trace_replay.specs.Before.{IsBefore}
 use Rattle.trace_replay.specs.Said.{RoseAtLeast}
 use Rattle.cache_run.specs.Fitted.{fitted_for}
@@ -26,18 +29,23 @@ pub record IsMadeOn (o : Told) (old made : State) : Type 0 where
   pub unarmed : made.power.stops ≡ []
   pub before : IsBefore (fitted_for o.geometry old) made
 
--- from this moment on so many device writes were made by a run of these lines: no fewer than the blocks that they write
-pub record CountsFrom (lines : List Line) (count : ℕ) (made now : State) : Type 0 where
+-- from this moment on so many device writes were made by a run of these lines over a new volume of these options: no
+-- fewer than the blocks that they write. Exactly the blocks that such a volume writes to the disk for these lines were
+-- written to it, if that count doesn't reach its last value
+pub record CountsFrom (o : Told) (lines : List Line) (count : ℕ) (made now : State) : Type 0 where
   pub counts : NeverFall made.counts now.counts
   pub exact : device_writes now.counts ≡ device_writes made.counts + count
   pub least : blocks_written lines ≤ count
+  pub run : List Ran
+  pub given : lines_of run ≡ lines
+  pub backs : RoseBy (backs_in o run) made.counts.disk_writes now.counts.disk_writes
   pub cuts : RoseAtLeast 0 made.faults.cuts now.faults.cuts
 
 -- a run of these lines over a new volume made so many device writes, from the end of the volume's creation on
 pub record CountsWrites (o : Told) (lines : List Line) (count : ℕ) (old now : State) : Type 0 where
   pub made : State
   pub new : IsMadeOn o old made
-  pub from : CountsFrom lines count made now
+  pub from : CountsFrom o lines count made now
 
 -- no count of the rig falls, and what lies beneath stays
 pub record RigGoesOn (old new : State) : Type 0 where

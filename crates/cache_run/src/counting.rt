@@ -66,7 +66,7 @@ fn count_over<R: Rig, V: Volume<R>>(
     requires few { length lines.now < 2 ^ 64 }
     requires owns { V.owns volume.old (R.state rig.old).contents }
     requires fresh { IsAsMade (V.owes volume.old (R.state rig.old).contents) V.stands (V.state volume.old) (R.state rig.old) }
-    ensures counted { IfOk result (λ n. CountsFrom lines.now n (R.state rig.old) (R.state rig.new)) }
+    ensures counted { IfOk result (λ n. CountsFrom (V.state volume.old).told lines.now n (R.state rig.old) (R.state rig.new)) }
     ensures flash { IsErrOf result Ended.Flash → Rose (R.state rig.old).faults.flash (R.state rig.new).faults.flash }
     ensures disk { IsErrOf result Ended.Disk → Rose (R.state rig.old).faults.disk (R.state rig.new).faults.disk }
     ensures only { OnErr result (IsErrOf result Ended.Flash ⊎ IsErrOf result Ended.Disk ⊎ IsErrOf result Ended.Memory) }
@@ -86,6 +86,7 @@ fn count_over<R: Rig, V: Volume<R>>(
 
 /// Fits the rig, makes a volume of this mode and these options on it, runs these lines over it without printing,
 /// and says how many device writes they made, from the end of the volume's creation on. None of the lines cuts power.
+/// Exactly the blocks that such a volume writes to the disk for these lines were written to it.
 ///
 /// It ends as for want of memory also if the rig can count no further.
 pub fn count_lines<R: Rig>(
