@@ -25,7 +25,7 @@ use Rattle.many_disks.specs.Told.Printed.{Told}
 
 -- ---- a line over several disks as a line of a `Reader`
 
--- a code: no other line has it. It is no line to be run
+-- each line over several disks as a line that no other one has. These lines stand for what was read, and are never run
 abbrev pub code : ManyLine → Line
 code (Disk disk) = line.Write disk 0 0
 code (Plain (line.Write lba count tag)) = line.Write lba count (suc tag)
@@ -35,7 +35,7 @@ abbrev pub coded_reading : ManyReading → Reading
 coded_reading (Ok many) = Ok (code many)
 coded_reading (Err cause) = Err cause
 
--- the form of lines over so many disks of equal size
+-- the form of lines over this many disks of equal size
 abbrev pub coded : ℕ → Form
 coded disks share number bytes = coded_reading (many_of share disks bytes)
 
@@ -50,31 +50,31 @@ BeginsWith share disks s many = (bytes : List ℕ) → s.left ≡ Some bytes
 
 -- ---- what is printed for the events of a script
 
--- for an answer, after these lines and blocks: the end line is that of each disk, and another answer has the addresses
--- of the disk with this first block
+-- what is printed for an answer after these lines and blocks: the end of each disk for the end line, and another answer
+-- with the addresses of the disk with this first block
 abbrev pub took_printed : ℕ → ℕ → ℕ → List Line → List BlockWrite → Answer → List Printed
 took_printed share disks start lines blocks (answer.End writes reads touched digest) = ends_by share disks lines blocks
 took_printed share disks start lines blocks other = Told (own start other) ∷ []
 
--- for an event, if the trace has these readings: a line that chooses a disk is printed when it is given
+-- what is printed for an event, if the trace has these readings. A line that chooses a disk is printed when it is given
 abbrev pub event_printed : ℕ → ℕ → List ManyReading → List Line → List BlockWrite → Event → List Printed
 event_printed share disks readings lines blocks (Gave line) = next_printed true (choice_at readings (length lines))
 event_printed share disks readings lines blocks (Took answer) = took_printed share disks (start_at share readings (length lines)) lines blocks answer
 event_printed share disks readings lines blocks (Touched lba block) = []
 
--- for events in turn
+-- the same for events in turn
 abbrev pub events_printed : ℕ → ℕ → List ManyReading → List Line → List BlockWrite → List Event → List Printed
 events_printed share disks readings lines blocks [] = []
 events_printed share disks readings lines blocks (event ∷ events) = event_printed share disks readings lines blocks event
     ++ events_printed share disks readings (lines ++ lines_given (event ∷ [])) (blocks ++ touched_in (event ∷ [])) events
 
--- for all events of a script that gave these lines
+-- the same for all events of a script that gave these lines
 abbrev pub script_printed : ℕ → ℕ → List ManyLine → List Event → List Printed
 script_printed share disks many e = events_printed share disks (map accepted_many many) [] [] e
 
 -- ---- the relations
 
--- these lines were given of that source, each disk's were counted, and that was printed
+-- these lines were given of that source, the lines and blocks of each disk were counted, and that was printed
 pub record CameMany (share disks : ℕ) (r : Reader) (chosen : ℕ) (tallies : List Tally) (now : SourceState) (taken : SinkState)
     (s : SourceState) (b : SinkState) (e : List Event) : Type 0 where
   pub many : List ManyLine
@@ -86,8 +86,8 @@ pub record CameMany (share disks : ℕ) (r : Reader) (chosen : ℕ) (tallies : L
   pub tally : AreTalliesOf share 0 (lines_given e) (touched_in e) tallies
   pub said : Appends b.taken taken.taken (printed_text (script_printed share disks many e))
 
--- these lines were given of that source, each disk's were counted, and then the sink failed within what is printed for
--- one more event
+-- these lines come first in that source, and what they and their answers say was printed. Then the sink failed within
+-- what is printed for one more event
 pub record BrokeMany (share disks : ℕ) (now : SinkState) (s : SourceState) (b : SinkState) (e : List Event) (event : Event) : Type 0 where
   pub many : List ManyLine
   pub begins : BeginsWith share disks s many

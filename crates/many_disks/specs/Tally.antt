@@ -49,7 +49,7 @@ pub record IsUncounted (tally : Tally) : Type 0 where
   pub touched : tally.touched ≡ 0
   pub holds : Holds256 tally.hasher []
 
--- a disk's lines were counted, and its blocks were taken
+-- the lines of a disk were counted, and its blocks were taken
 pub record IsTallyOf (share disk : ℕ) (lines : List Line) (blocks : List BlockWrite) (tally : Tally) : Type 0 where
   pub writes : tally.writes ≡ sum_by write_count (own_given share disk lines)
   pub reads : tally.reads ≡ sum_by read_count (own_given share disk lines)
@@ -61,7 +61,7 @@ abbrev pub AreTalliesOf : ℕ → ℕ → List Line → List BlockWrite → List
 AreTalliesOf share disk lines blocks [] = ⊤
 AreTalliesOf share disk lines blocks (tally ∷ tallies) = IsTallyOf share disk lines blocks tally × AreTalliesOf share (disk + 1) lines blocks tallies
 
--- the lines that were counted of each disk are few
+-- of each disk at most this many lines were counted
 abbrev pub CountAtMost : ℕ → List Tally → Type 0
 CountAtMost n [] = ⊤
 CountAtMost n (tally ∷ tallies) = (tally.writes + tally.reads ≤ n) × CountAtMost n tallies

@@ -99,6 +99,7 @@ impl<'a, I: Source, O: Sink> Script for ManyScript<'a, I, O> {
     ghost use Rattle.many_disks.specs.Readings.{ReadsMany};
     ghost use Rattle.many_disks.specs.Script.{BrokeMany, CameMany, few_bytes};
 
+    // The numbers of the disks stand with what lies beneath, since they stay too.
     ghost state = { λ v. record {
       size = v.size;
       turns = 4294967296 - v.reader.bytes;

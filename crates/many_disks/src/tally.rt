@@ -17,9 +17,13 @@ use crate::printing::put_disk;
 use ft_base::Block;
 use sha2::{Digest, Sha256};
 use std::alloc::{AllocError, Global};
+use std::array;
 use trace_model::{Answer, Line};
 use trace_replay::Ended;
 use trace_text::put_answer;
+
+/// At most this many disks share a volume.
+const DISK_LIMIT: usize = 16;
 
 /// What a disk was asked for.
 #[derive(Drop)]
@@ -97,38 +101,20 @@ impl Tally {
     }
 }
 
-/// What each of at most 16 disks was asked for.
+/// What each disk was asked for.
 #[derive(Drop)]
 pub(crate) struct Tallies {
-    each: [Tally; 16],
+    each: [Tally; DISK_LIMIT],
 }
 
 impl Tallies {
     /// Nothing was asked for.
-    #[tactic(auto, using(crate::proofs::TallyLemmas::uncounted))]
     pub(crate) fn new() -> Tallies
         ensures none { (share : ℕ) → AreTalliesOf share 0 [] [] result.each }
         ensures few { CountAtMost 0 result.each }
     {
         Tallies {
-            each: [
-                Tally::new(),
-                Tally::new(),
-                Tally::new(),
-                Tally::new(),
-                Tally::new(),
-                Tally::new(),
-                Tally::new(),
-                Tally::new(),
-                Tally::new(),
-                Tally::new(),
-                Tally::new(),
-                Tally::new(),
-                Tally::new(),
-                Tally::new(),
-                Tally::new(),
-                Tally::new(),
-            ],
+            each: array::from_fn(|_| Tally::new()),
         }
     }
 
@@ -144,7 +130,7 @@ impl Tallies {
     }
 
     /// Takes a touched address of the volume and its block, for the disk on which it lies. Takes nothing if that disk
-    /// can count no more. Each disk has `share` blocks.
+    /// can count no more. Each disk has `share` blocks. An address behind all disks is taken for none.
     pub(crate) fn take(&mut self, share: u64, lba: u64, block: &Block) -> Result<(), Ended>
         requires some { 1 ≤ share }
         ensures taken { OnOk result ((lines : List Line) → (blocks : List BlockWrite) → AreTalliesOf share 0 lines blocks self.old.each
@@ -154,7 +140,7 @@ impl Tallies {
         ensures few { (n : ℕ) → CountAtMost n self.old.each → CountAtMost n self.new.each }
     {
         let disk = lba / share;
-        if disk >= 16 {
+        if disk >= DISK_LIMIT as u64 {
             return Ok(());
         }
         self.each[disk as usize].take(lba - disk * share, block)

@@ -1,15 +1,13 @@
 -- A write line that was cut fits with the numbers that reading back finds, and the disk is the plain disk after it.
-use Rattle.std.proofs.Common.{◌≡◌, ◌≢◌, ◌⊎◌, refl, ℕ, zero, suc, ◌+◌, ◌-◌, ◌<◌, ◌≤◌, ◌==◌, arith, inl, inr, Bool, true, false, cond, List, [], ◌∷◌, ◌++◌, length, drop, ap, sym, ◌∙◌, subst}
+use Rattle.std.proofs.Common.{◌≡◌, ◌≢◌, ◌⊎◌, refl, ℕ, zero, suc, ◌+◌, ◌-◌, ◌<◌, ◌≤◌, ◌==◌, arith, inl, inr, false, cond, List, ◌∷◌, ◌++◌, length, drop, ap, sym, ◌∙◌, subst}
 use Rattle.std.proofs.lemmas.Bool.Decides.{nat_tests}
 use Rattle.ft_base.specs.PlainDisk.{BlockWrite, PlainDisk}
 use Rattle.ft_base.specs.Pattern.{pat}
-use Rattle.ft_base.specs.declared.told.Ack.{Ack}
 use Rattle.ft_base.specs.declared.told.Ack.TheVariants as ack_kind
-use Rattle.trace_model.specs.declared.line.Line.{Line}
 use Rattle.trace_model.specs.declared.line.Line.TheVariants as line
 use Rattle.trace_model.specs.declared.ran.Ran.{Ran}
 use Rattle.trace_model.specs.Run.{disk_after, disk_without, disk_written, with_blocks, writes_after}
-use Rattle.trace_model.specs.Fits.{FitsLost, FitsNext, FitsWrite, WasNew, armed_after, kept_since_flush}
+use Rattle.trace_model.specs.Fits.{FitsNext, WasNew, armed_after, kept_since_flush}
 use Rattle.trace_model.specs.SoFar.{as_ran}
 use Rattle.trace_model.specs.Lost.{IsLeastLost}
 use Rattle.trace_model.proofs.LostLemmas.{drop_front, first_is_new, least_is}

@@ -1,10 +1,8 @@
 -- The disk that reading back finds, whatever was lost.
 use Rattle.std.proofs.Common.{◌≡◌, ◌≢◌, ◌⊎◌, refl, ℕ, zero, suc, ◌+◌, ◌-◌, ◌<◌, ◌≤◌, ◌==◌, ◌||◌, arith, inl, inr, Bool, true, false, cond, List, [], ◌∷◌, ◌++◌, length, drop, ap, sym, ◌∙◌, subst, eqb-true}
 use Rattle.std.proofs.lemmas.Bool.{cases_Bool, false≢true}
-use Rattle.std.proofs.lemmas.Bool.Decides.{nat_tests}
-use Rattle.ft_base.specs.declared.block.Block.{Block}
 use Rattle.ft_base.specs.PlainDisk.{BlockWrite, PlainDisk}
-use Rattle.trace_model.specs.Run.{disk_written, with_blocks}
+use Rattle.trace_model.specs.Run.{disk_written}
 use Rattle.trace_model.specs.Fits.{WasNew}
 use Rattle.trace_model.specs.Lost.{is_written, LooksLost, IsLeastLost}
 

@@ -3,8 +3,8 @@ use Rattle.std.proofs.lemmas.Bool.Decides.{nat_tests}
 use Rattle.many_disks.proofs.TallyLemmas.{if_took, took_each, took_few, took_none}
 use Rattle.many_disks.proofs.tally.Tallies.take.Goals as goal
 
-pub returns-then-disk-ge16-clause-taken : goal.returns-then-disk-ge16-clause-taken
-returns-then-disk-ge16-clause-taken c = λ ls bs are. took_none c.args.share ls bs (record { lba = c.args.lba; block = c.args.block.now }) c.args.self.now.each (grind (arith, nat_tests, c.if-disk-ge16.true)) are
+pub returns-then-disk-clause-taken : goal.returns-then-disk-clause-taken
+returns-then-disk-clause-taken c = λ ls bs are. took_none c.args.share ls bs (record { lba = c.args.lba; block = c.args.block.now }) c.args.self.now.each (grind (arith, nat_tests, c.if-disk.true)) are
 
 pub returns-clause-taken : goal.returns-clause-taken
 returns-clause-taken c = if_took c.take.result _ _ _ (λ touched holds ls bs are.

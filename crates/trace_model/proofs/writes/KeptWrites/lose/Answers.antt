@@ -1,4 +1,3 @@
-use Rattle.std.proofs.Common.{arith}
 use Rattle.trace_model.proofs.KeepLemmas.{lost-more}
 use Rattle.trace_model.proofs.writes.KeptWrites.lose.Goals as goal
 

@@ -1,4 +1,4 @@
-use Rattle.std.proofs.Common.{◌≡◌, ◌-◌, ◌∙◌, ap, arith, drop, get_or, length, ◌<◌}
+use Rattle.std.proofs.Common.{◌-◌, ◌∙◌, ap, arith, drop, length, ◌<◌}
 use Rattle.ft_base.specs.Pattern.{pat}
 use Rattle.trace_model.specs.Plain.{kept_in}
 use Rattle.trace_model.specs.Run.{disk_written}
