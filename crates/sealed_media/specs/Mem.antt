@@ -6,7 +6,8 @@ use Rattle.ft_base.specs.declared.block.Page.{Page}
 use Rattle.ft_base.specs.declared.block.Page.TheVariants as page
 use Rattle.ft_media.specs.State.{State}
 use Rattle.ft_media.specs.Media.{Crashed, IsBlankAhead, IsSmall}
-use Rattle.mem_rig.specs.Rig.{state_of}
+use Rattle.device_calls.specs.Calls.{calls_made, failing_numbers}
+use Rattle.mem_rig.specs.Rig.{state_of, flash_calls, disk_calls}
 use Rattle.sealed_media.specs.declared.mem.MemRawRig.{MemRawRig}
 use Rattle.sealed_media.specs.Seal.{plain_page, erased_page, ones_are_blank}
 use Rattle.sealed_media.specs.Seals.{seal_at, seal_pages}
@@ -29,6 +30,15 @@ raw_of number pages last s = record {
 
 abbrev pub raw_state_of : MemRawRig → RawState
 raw_state_of m = raw_of m.tear (seal_pages m.seals) (seal_at m.seals) (state_of m.rig)
+
+-- the number from which torn pages are drawn
+abbrev pub torn_number : MemRawRig → ℕ
+torn_number m = m.tear
+
+-- the calls of the flash and of the disk that will fail, by their numbers, none of which was made yet
+abbrev pub WillFail : MemRawRig → List ℕ → List ℕ → Type 0
+WillFail m flash disk = (failing_numbers (flash_calls m.rig) ≡ flash) × (failing_numbers (disk_calls m.rig) ≡ disk)
+    × (calls_made (flash_calls m.rig) ≡ 0) × (calls_made (disk_calls m.rig) ≡ 0)
 
 -- a blank page shows bytes of ones
 pub blank_shown : (number pages : ℕ) (last : Place → List ℕ) (found : Place → Page) (at : Place) → found at ≡ page.Blank → plain_page (shown_pages number pages last found at) ≡ page.Blank

@@ -25,7 +25,7 @@ impl MemRawRig {
     ghost use Rattle.std.specs.Prelude.{true, []};
     ghost use Rattle.ft_media.specs.Fitted.{new_contents};
     ghost use Rattle.sealed_media.specs.RawState.{plain_state};
-    ghost use Rattle.sealed_media.specs.Mem.{raw_state_of};
+    ghost use Rattle.sealed_media.specs.Mem.{WillFail, raw_state_of, torn_number};
 
     /// Media without a block, with power on and nothing armed. No call will fail. Torn pages are drawn from this
     /// number.
@@ -34,6 +34,8 @@ impl MemRawRig {
         ensures counts { (raw_state_of result).counts ≡ record { programs = 0; erases = 0; disk_reads = 0; disk_writes = 0; disk_flushes = 0 } }
         ensures faults { (raw_state_of result).faults ≡ record { flash = 0; disk = 0; cuts = 0 } }
         ensures power { (raw_state_of result).power ≡ record { on = true; stops = []; rest = 0 } }
+        ensures tear { torn_number result ≡ tear }
+        ensures fails { WillFail result [] [] }
     {
         MemRawRig::failing(alloc, tear, Vec::new(alloc), Vec::new(alloc))
     }
@@ -45,6 +47,8 @@ impl MemRawRig {
         ensures counts { (raw_state_of result).counts ≡ record { programs = 0; erases = 0; disk_reads = 0; disk_writes = 0; disk_flushes = 0 } }
         ensures faults { (raw_state_of result).faults ≡ record { flash = 0; disk = 0; cuts = 0 } }
         ensures power { (raw_state_of result).power ≡ record { on = true; stops = []; rest = 0 } }
+        ensures tear { torn_number result ≡ tear }
+        ensures fails { WillFail result flash.items disk.items }
     {
         MemRawRig {
             rig: MemRig::failing(alloc, flash, disk),
