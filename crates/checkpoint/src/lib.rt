@@ -6,7 +6,7 @@
 //! checkpoint. After `Ok` of `commit` or `checkpoint` the flash stands for the map. Whatever either answers, and
 //! whenever power goes off in it, the flash stands for the map or for the same entries as before. No page of the pool
 //! changes. `newest` finds the checkpoint that counts, and `format` makes an empty one. The laws of loading are in
-//! `cache_model::laws`.
+//! `cache_laws::laws`.
 #![tactic(auto)]
 
 mod asking;
@@ -19,7 +19,7 @@ mod regions;
 mod walk;
 mod writing;
 
-pub use cache_model::laws;
+pub use cache_laws::laws;
 pub use checkpoints::Checkpoints;
 pub use formatting::format;
 pub use regions::newest;
