@@ -1,3 +1,4 @@
+//! The words after the program's name: the measurement that they name, and the words that are left as its options.
 ghost use Rattle.std.specs.Prelude.{◌≡◌, ◌↔◌, [], ◌∷◌, Some, drop, map, take, codes};
 ghost use Rattle.std.specs.String.{string_bytes};
 ghost use Rattle.bench.specs.declared.words.Task.TheVariants as task;

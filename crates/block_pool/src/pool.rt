@@ -1,3 +1,4 @@
+//! The pool: its free block with the fewest erases is taken next, and each block has a role and a count of its erases.
 ghost use Rattle.std.specs.Prelude.{◌≡◌, ◌≢◌, ◌≤◌, ◌<◌, ℕ, IfOk, OnOk, OnErr, IsErrOf};
 ghost use Rattle.ft_base.specs.Layout as layout;
 ghost use Rattle.ft_media.specs.State.{failed, lost};

@@ -1,3 +1,4 @@
+//! Worked examples of a pool over flash in memory: roles, wear that is spread, and erases that fail or are cut.
 ghost use Rattle.std.specs.Prelude.{◌<◌, IfSome};
 ghost use Rattle.std.specs.Bool.{OnTrue};
 ghost use Rattle.ft_media.specs.Media.{IsNextPage};

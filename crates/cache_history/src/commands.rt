@@ -1,3 +1,4 @@
+//! Calls of a cache, and what each makes of two lists: the list that is held, and the list that a crash would leave.
 ghost use Rattle.std.specs.Prelude.{◌≡◌, ◌<◌, ℕ, None, OnOk, IfOk, IfErr, IsErrOf};
 ghost use Rattle.ft_base.specs.Contents.{Image, Now};
 ghost use Rattle.ft_media.specs.Drives.{DrivesFlash};

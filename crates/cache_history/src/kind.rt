@@ -1,3 +1,5 @@
+//! The commands of a cache that may write to the flash, as values without an address and a block.
+
 /// A command of the cache.
 #[derive(Clone, Copy, Debug, PartialEq, Eq)]
 pub enum Kind {

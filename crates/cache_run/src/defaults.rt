@@ -1,3 +1,4 @@
+//! The default options of a volume, which are also the options that the word `replay` alone says.
 ghost use Rattle.ft_base.specs.declared.told.Mode.TheVariants.{Back};
 ghost use Rattle.ft_volume.specs.Volume.{told_for};
 ghost use Rattle.cache_run.specs.Default.{IsDefault};

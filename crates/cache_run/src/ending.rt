@@ -1,3 +1,4 @@
+//! The exit status of a run: 0, or a number from 2 to 7 for the cause of its early end.
 ghost use Rattle.std.specs.Prelude.{◌≡◌};
 ghost use Rattle.cache_run.specs.Status as status;
 

@@ -1,3 +1,4 @@
+//! A run over lines that are held in memory, in either mode. A sweep makes such a run for each device write.
 ghost use Rattle.std.specs.Prelude.{◌≡◌, ◌⊎◌, ◌≤◌, ◌<◌, ◌+◌, ◌^◌, ◌++◌, All, length, true, IsErrOf};
 ghost use Rattle.ft_volume.specs.Volume.{told_for};
 ghost use Rattle.cache_model.specs.Stands.{ImageStandsFor};

@@ -1,3 +1,4 @@
+//! A run over a made trace, in either mode. No source is read, and no line is refused.
 ghost use Rattle.std.specs.Prelude.{◌≡◌, ◌⊎◌, true, IsErrOf};
 ghost use Rattle.ft_volume.specs.Volume.{told_for};
 ghost use Rattle.cache_model.specs.Stands.{ImageStandsFor};

@@ -1,3 +1,4 @@
+//! Runs over a trace that is read from a source, in either mode: in any form of lines, or over several disks.
 ghost use Rattle.std.specs.Prelude.{◌≡◌, ◌⊎◌, ◌≤◌, ◌/◌, true, OnOk, IsErrOf};
 ghost use Rattle.std.specs.Io.KnownBytes.{IsAtEnd};
 ghost use Rattle.ft_volume.specs.Volume.{told_for};

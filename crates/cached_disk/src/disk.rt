@@ -1,3 +1,4 @@
+//! The state that both volumes share: cache, options and mode, whether it is down, and how a cut leaves it.
 ghost use Rattle.std.specs.Prelude.{◌≡◌, List, [], length, true};
 ghost use Rattle.ft_base.specs.Contents.{Contents};
 ghost use Rattle.ft_base.specs.PlainDisk.{BlockWrite, PlainDisk};

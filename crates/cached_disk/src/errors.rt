@@ -1,3 +1,4 @@
+//! Errors of the disk, of the cache and of an opening, as the layer above answers them.
 ghost use Rattle.std.specs.Prelude.{◌≡◌, ℕ};
 ghost use Rattle.cached_disk.specs.Errors as errors;
 

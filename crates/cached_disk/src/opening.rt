@@ -1,3 +1,4 @@
+//! New volumes, and openings in two steps: the disk is flushed and the cache loaded, and then its checkpoint is made.
 ghost use Rattle.std.specs.Prelude.{◌≡◌, List, [], OnOk, IfOk, IfErr};
 ghost use Rattle.ft_base.specs.PlainDisk.{BlockWrite};
 ghost use Rattle.ft_media.specs.State.{State};

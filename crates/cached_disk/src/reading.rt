@@ -1,3 +1,4 @@
+//! Reads of a block. The cache answers if it holds the address. If not, the disk answers, and the block is held.
 ghost use Rattle.std.specs.Prelude.{◌≡◌, ◌<◌, ℕ, List, None, OnErr};
 ghost use Rattle.std.specs.FinMap.{get};
 ghost use Rattle.ft_volume.specs.Volume.{AsksDevices, Costs, Reads};

@@ -1,3 +1,4 @@
+//! The calls without an address: flush, report, and the checkpoint that an idle step may make.
 ghost use Rattle.std.specs.Prelude.{◌≡◌, ◌*◌, ℕ, List, [], true, false, nat_le, length, if◌then◌else◌, IfOk, OnErr, OnOk, IsErrOf};
 ghost use Rattle.std.specs.FinMap.{get};
 ghost use Rattle.std.specs.Option.{is_some};

@@ -1,3 +1,4 @@
+//! The two calls that bring buffered changes to the flash, commit and checkpoint, with memory that is taken once.
 ghost use Rattle.std.specs.Prelude.{◌≡◌, ◌≢◌, ◌<◌, ◌≤◌, [], IfOk, OnOk, IsOk};
 ghost use Rattle.ft_base.specs.Layout.{log_pages};
 ghost use Rattle.ft_media.specs.Drives.{OnlyDrives};

@@ -1,3 +1,4 @@
+//! Erases of several erase blocks. A checkpoint region goes before its log, so that it never counts without the log.
 ghost use Rattle.std.specs.Prelude.{◌≡◌, ◌<◌, ◌≤◌, ◌+◌, OnOk, IsErrOf};
 ghost use Rattle.ft_base.specs.Layout.{k};
 ghost use Rattle.ft_media.specs.State.{failed, lost};

@@ -1,3 +1,4 @@
+//! Formatting: whatever was on the flash before, it then loads as a map without entries.
 ghost use Rattle.std.specs.Prelude.{◌≡◌, Ok, OnOk, IsErrOf};
 ghost use Rattle.ft_media.specs.State.{failed, lost};
 ghost use Rattle.ft_media.specs.Drives.{DrivesFlash};

@@ -1,3 +1,4 @@
+//! The bytes of a checkpoint in format 2: a map page from its records, and the seal from the numbers of the cache.
 ghost use Rattle.std.specs.Prelude.{◌≡◌, ◌≤◌, true, length, Some};
 ghost use Rattle.std.specs.List.{list_all};
 ghost use Rattle.cache_model.specs.declared.format.PageKind.TheVariants as PageKind;

@@ -1,3 +1,4 @@
+//! A page of a checkpoint region, read and classified: records, a seal, or neither.
 ghost use Rattle.std.specs.Prelude.{◌<◌, IfOk, IsErrOf};
 ghost use Rattle.ft_base.specs.declared.block.Spare.{Spare as SpareValue};
 ghost use Rattle.ft_base.specs.declared.block.Page.TheVariants.{Whole};

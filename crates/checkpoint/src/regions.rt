@@ -1,3 +1,4 @@
+//! The search for the checkpoint that counts: each region is walked to its seal, and the later complete one is chosen.
 ghost use Rattle.std.specs.Prelude.{◌≡◌, ◌<◌, Option, IfOk, IsErrOf, option_map};
 ghost use Rattle.ft_media.specs.State.{failed, lost};
 ghost use Rattle.ft_media.specs.Reads.{ReadsFlash};

@@ -1,3 +1,4 @@
+//! The walk along a checkpoint region, page by page, as steps on values: no page is read here.
 ghost use Rattle.std.specs.Prelude.{◌≡◌, ◌≤◌, ◌*◌, ◌^◌, Option, Some, None};
 ghost use Rattle.ft_base.specs.declared.block.Page.{Page};
 ghost use Rattle.ft_base.specs.Layout.{most_page_records};

@@ -1,3 +1,4 @@
+//! The device writes of a checkpoint, in their order: erases, map pages, and the seal last.
 ghost use Rattle.std.specs.Prelude.{true, ◌≡◌, ◌⊎◌, ◌<◌, ◌≤◌, ◌+◌, ◌*◌, ◌^◌, length, OnOk};
 ghost use Rattle.std.specs.List.{list_all};
 ghost use Rattle.ft_base.specs.Layout.{checkpoint_at, checkpoint_pages, k, page_records, rounded_up};

@@ -1,3 +1,4 @@
+//! The commands `replay`, `cost`, `gen`, `inspect` and `sweep`, each with its values, read from words.
 ghost use Rattle.std.specs.Prelude.{◌∷◌, ℕ, IfOk, IfSome, IfNone, codes, map};
 ghost use Rattle.std.specs.String.{string_bytes};
 ghost use Rattle.ft_base.specs.Told.{Told};

@@ -1,3 +1,5 @@
+//! The devices that words choose beneath a volume: plain or raw flash, with parity or without.
+
 use crate::Command;
 
 /// Whether flash tells which of its pages are torn.

@@ -1,3 +1,4 @@
+//! The law of the words: they say at most one command, with one set of values, over one choice of devices.
 ghost use Rattle.std.specs.Prelude.{◌≡◌, ℕ, List};
 ghost use Rattle.ft_base.specs.Told.{Told};
 ghost use Rattle.ft_base.specs.declared.power.Outcome.{Outcome};

@@ -1,3 +1,5 @@
+//! The options of each command, and how the words are matched against them by clap. Words that clap would misread are
+//! refused before.
 ghost use Rattle.std.specs.Prelude.{◌≡◌, ◌≢◌, List, [], map, true, false, IfOk, IfSome, IfNone, option_map};
 ghost use Rattle.std.specs.String.{string_bytes};
 ghost use Rattle.std.specs.List.{list_all};

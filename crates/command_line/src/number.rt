@@ -1,3 +1,4 @@
+//! Numbers in words: decimal digits, below 2^64, with no sign and no zero in front.
 ghost use Rattle.std.specs.Prelude.{◌≡◌, ◌≢◌, ◌<◌, ◌^◌, ◌↔◌, ℕ, IsTrue, IfSome, IfNone, decimal, length, slice_index};
 
 const PLUS: u8 = b'+';

@@ -1,3 +1,4 @@
+//! The value of each option: read from its word and held against its range, or else the default.
 ghost use Rattle.std.specs.Prelude.{◌≡◌, ◌<◌, ◌≤◌, ◌^◌, ◌↔◌, ℕ, IsTrue, IfSome, IfNone, codes, decimal};
 ghost use Rattle.ft_base.specs.Told.{Told};
 ghost use Rattle.ft_base.specs.declared.geometry.Geometry.{Geometry};

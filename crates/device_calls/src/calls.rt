@@ -1,3 +1,4 @@
+//! The count of a device's calls. The number of a call and the power decide how it ends.
 ghost use Rattle.std.specs.Prelude.{◌≡◌, ◌≤◌};
 ghost use Rattle.ft_base.specs.Count.{last_count};
 

@@ -1,3 +1,5 @@
+//! The power during a call of a device, and the endings that a device write may have.
+
 use ft_base::Outcome;
 
 /// The power of a device during one call.

@@ -1,3 +1,5 @@
+//! The numbered calls alone: a listed one fails unless power stops it, and a write without power isn't counted.
+
 use device_calls::{Calls, Current, Ending};
 use ft_base::Outcome;
 use std::test::Fail;

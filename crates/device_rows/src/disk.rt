@@ -1,3 +1,5 @@
+//! The disk half alone: writes, flushes and calls that fail, and the block that each outcome of a cut leaves.
+
 use device_calls::{Current, Ending};
 use disk_model::{MemDisk, block_of_cut};
 use ft_base::{Block, Outcome};

@@ -1,3 +1,5 @@
+//! The flash half alone: programs, erases and calls that fail, and the pages that each outcome of a cut leaves.
+
 use device_calls::{Current, Ending};
 use ft_base::{Block, Outcome, Page, Place, Spare, zero_block};
 use ft_media::{MediaError, PageRead};

@@ -1,3 +1,4 @@
+//! The rig in memory: what each outcome leaves of each cut call, and thousands of random calls beside plain lists.
 ghost use Rattle.std.specs.Prelude.{◌<◌};
 ghost use Rattle.ft_media.specs.Media.{IsNextPage};
 

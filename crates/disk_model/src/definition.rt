@@ -1,3 +1,4 @@
+//! The definition of a cut, computed for one disk block from all values that it had since the last flush.
 ghost use Rattle.std.specs.Prelude.{◌≡◌};
 ghost use Rattle.ft_media.specs.Rig as cuts;
 

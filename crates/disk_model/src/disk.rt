@@ -1,3 +1,4 @@
+//! The disk in memory and its calls: reads that may fail, and writes and flushes that may fail or be cut.
 ghost use Rattle.std.specs.Prelude.{◌≡◌, ◌<◌, ◌≤◌, ◌^◌};
 ghost use Rattle.ft_base.specs.Count.{last_count};
 

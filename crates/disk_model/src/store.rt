@@ -1,3 +1,4 @@
+//! The values of all disk blocks, kept so that a flush forgets the older ones and a cut can bring them back.
 ghost use Rattle.std.specs.Prelude.{◌≡◌, ◌==◌, ℕ, None, [], IsSome, if◌then◌else◌};
 ghost use Rattle.std.specs.Ordering.{nat_cmp};
 ghost use Rattle.std.specs.BTreeMap.{get};

@@ -1,3 +1,5 @@
+//! A small page of docs, and the examples that are found in it: words, lines, status, and the text that is shown.
+
 use crate::example::is_text;
 use crate::page::examples_in;
 use std::test::Fail;

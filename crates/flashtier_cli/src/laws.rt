@@ -1,3 +1,4 @@
+//! Laws of the program: what `replay` alone says, which words read a trace, and parity pages after a run.
 ghost use Rattle.std.specs.Prelude.{ℕ, [], ◌∷◌, List, Ok, codes};
 ghost use Rattle.ft_base.specs.StreamState.{SinkState, SourceState};
 ghost use Rattle.ft_base.specs.Told.{Told};

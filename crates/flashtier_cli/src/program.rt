@@ -1,3 +1,4 @@
+//! The program's two calls, `run` over one rig and `run_on` over plain or raw flash, with their options and statuses.
 ghost use Rattle.std.specs.Prelude.{◌≡◌, map};
 ghost use Rattle.std.specs.String.{string_bytes};
 ghost use Rattle.command_line.specs.declared.devices.FlashKind.TheVariants.{Plain, Raw};

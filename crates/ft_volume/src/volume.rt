@@ -1,3 +1,4 @@
+//! The contract of volumes: what each call does to the plain disk, which writes it leaves owed, and what it costs.
 ghost use Rattle.std.specs.Prelude.{◌≡◌, ◌↔◌, ◌≤◌, List, [], length, true, false, OnOk, OnErr, IfOk, IsErrOf};
 ghost use Rattle.ft_base.specs.Contents.{Contents, Image};
 ghost use Rattle.ft_base.specs.PlainDisk.{BlockWrite, PlainDisk};

@@ -1,3 +1,4 @@
+//! The held trace: its lines are taken from bytes, up to the first that isn't within the limits of a sweep.
 ghost use Rattle.std.specs.Prelude.{◌≡◌, ◌≤◌, ◌<◌, ◌+◌, ◌++◌, ◌∷◌, [], ℕ, All, length, map, vec_len, Ok, Err, OnOk, OnErr, IsErrOf};
 ghost use Rattle.trace_model.specs.declared.line.Line.{Line};
 ghost use Rattle.trace_model.specs.declared.line.LineError.{LineError};

@@ -1,3 +1,4 @@
+//! The list of log blocks: blocks are begun, adopted and released, and pages of the open one are programmed in order.
 ghost use Rattle.std.specs.Prelude.{◌≡◌, ◌<◌, ◌≤◌, ◌-◌, [], length, slice_get, Some, None, IfOk, IfSome, OnOk, OnErr, IsErrOf};
 ghost use Rattle.std.specs.Vec.{vec_capacity};
 ghost use Rattle.ft_base.specs.Contents.{set};

@@ -1,3 +1,5 @@
+//! The lines of a trace over several disks, as values: a choice of disk, or a line for the chosen one.
+
 use trace_model::Line;
 
 /// What a line of a trace over several disks says.

@@ -1,3 +1,4 @@
+//! A line over several disks, read for its own disk and then moved to that disk's share of the volume.
 ghost use Rattle.std.specs.Prelude.{◌≡◌, ◌≤◌, ◌<◌, ◌+◌, ◌*◌, ◌/◌, ◌^◌, ◌==◌, ℕ, slice_index, IfOk, IfNone, IfSome};
 ghost use Rattle.trace_model.specs.Lines.{IsRunnable, line_of, split_words};
 ghost use Rattle.many_disks.specs.Lines as many;

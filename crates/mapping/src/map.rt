@@ -1,3 +1,4 @@
+//! The map that the layers above use: look-ups, counts, room, and changes with a test whether they fit.
 ghost use Rattle.std.specs.Prelude.{◌≡◌, ◌⊎◌, ◌<◌, ◌≤◌, ◌+◌, ◌*◌, ◌-◌, ◌^◌, ℕ, length, min, take, drop, IfOk, OnOk, OnErr, IfSome, IfNone, option_map, max, IsTrue, ◌↔◌};
 ghost use Rattle.std.specs.FinMap.{get};
 ghost use Rattle.cache_model.specs.Records.{no_entries, after};

@@ -1,3 +1,4 @@
+//! The traits `Media` and `Rig` for the rig in memory, with clauses that say exactly how each call ends.
 ghost use Rattle.std.specs.Prelude.{◌≡◌, false, OnOk, OnErr};
 ghost use Rattle.mem_rig.specs.Rig.{state_of};
 ghost use Rattle.mem_rig.specs.Called.{Uncounted};

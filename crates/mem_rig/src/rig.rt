@@ -1,3 +1,4 @@
+//! The rig in memory: flash and disk under one power, so that a cut within one device settles the other.
 ghost use Rattle.std.specs.Prelude.{◌≡◌, ◌≤◌, false, []};
 ghost use Rattle.ft_base.specs.Count.{last_count};
 ghost use Rattle.nand_model.specs.Nand.{flash_of, nand_blocks, nand_pages, HasRoom};

@@ -1,3 +1,4 @@
+//! The power supply and its queue of stops: whether the next device write finds power on, off, or going off.
 ghost use Rattle.std.specs.Prelude.{◌≡◌, ◌<◌, ◌≤◌, ◌∷◌, length, true, []};
 ghost use Rattle.ft_base.specs.declared.power.Stop.{Stop};
 

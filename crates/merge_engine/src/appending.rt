@@ -1,3 +1,4 @@
+//! Appends to the open log block. If it has no page left, room is made, the buffer committed, and another block begun.
 ghost use Rattle.std.specs.Prelude.{◌≡◌, ◌≤◌, ◌<◌, ◌-◌, [], length, ℕ, OnOk, OnErr, IfOk, IsOk};
 ghost use Rattle.ft_base.specs.Contents.{Contents};
 ghost use Rattle.ft_media.specs.Media.{program_counted, erase_counted};

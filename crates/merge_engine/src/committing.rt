@@ -1,3 +1,4 @@
+//! Commit and checkpoint as steps of the parts, told of the lists for which the flash stands.
 ghost use Rattle.std.specs.Prelude.{◌≡◌, ◌≢◌, ◌<◌, ◌≤◌, [], OnOk, OnErr, IsOk};
 ghost use Rattle.ft_base.specs.Layout.{log_pages};
 ghost use Rattle.ft_media.specs.Media.{program_counted};

@@ -1,3 +1,4 @@
+//! Log blocks that go out of use: blocks without an entry, and the oldest one after each group in it was merged.
 ghost use Rattle.std.specs.Prelude.{◌≡◌, ◌≤◌, length, ℕ, Some, slice_get, OnOk, IsOk};
 ghost use Rattle.ft_base.specs.Contents.{Contents};
 ghost use Rattle.ft_media.specs.Drives.{OnlyDrives};

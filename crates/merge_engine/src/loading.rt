@@ -1,3 +1,4 @@
+//! The parts over a loaded map: the role of each erase block and the list of log blocks follow from its entries.
 ghost use Rattle.std.specs.Prelude.{◌≡◌, ◌<◌, ◌≤◌, ◌+◌, ℕ, [], None, Some, IfOk};
 ghost use Rattle.std.specs.FinMap.{get};
 ghost use Rattle.cache_model.specs.declared.entry.Entry.{Entry};

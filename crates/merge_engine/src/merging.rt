@@ -1,3 +1,4 @@
+//! The merge of a group, by copy or by switch. If no data block is left for it, a clean group gives way.
 ghost use Rattle.std.specs.Prelude.{◌≡◌, ◌≢◌, ◌≤◌, ◌<◌, ◌+◌, ℕ, [], OnOk, IfOk};
 ghost use Rattle.ft_base.specs.Contents.{Contents};
 ghost use Rattle.ft_base.specs.Layout.{log_pages};

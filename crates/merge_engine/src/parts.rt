@@ -1,3 +1,5 @@
+//! The parts of a cache as one value, from map and log to victims and checkpoints.
+
 use block_pool::Pool;
 use checkpoint::Checkpoints;
 use ft_base::Geometry;

@@ -1,3 +1,4 @@
+//! Steps on the list of erase blocks: each changes pages of one block, and after a cut none of them is ready.
 ghost use Rattle.std.specs.Prelude.{◌≡◌, ◌<◌, ◌+◌, ◌==◌, ℕ, length, None, Some, nat_lt, if◌then◌else◌, IfOk};
 ghost use Rattle.ft_base.specs.declared.block.Place.{Place};
 ghost use Rattle.ft_base.specs.declared.block.Page.TheVariants as content;

@@ -1,3 +1,4 @@
+//! Marks of the pages of an erase block after an erase, cut or not. No byte of a page is touched.
 ghost use Rattle.std.specs.Prelude.{◌≡◌, ◌<◌, ℕ, length, slice_index_or};
 ghost use Rattle.ft_media.specs.declared.media.PageRead.TheVariants as read;
 ghost use Rattle.ft_base.specs.declared.block.Block.{Block};

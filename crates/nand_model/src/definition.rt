@@ -1,3 +1,4 @@
+//! The definition of a cut, computed for one page: of a program, and of an erase.
 ghost use Rattle.std.specs.Prelude.{◌≡◌};
 ghost use Rattle.nand_model.specs.Steps as steps;
 

@@ -1,3 +1,4 @@
+//! One erase block in memory: a mark for each page, the bytes of programmed pages, and the page that comes next.
 ghost use Rattle.std.specs.Prelude.{◌≡◌, ◌<◌, ◌≤◌, ◌+◌, ℕ, Some, slice_index_or, vec_len};
 ghost use Rattle.std.specs.Vec.{vec_capacity};
 ghost use Rattle.ft_media.specs.declared.media.PageRead.TheVariants as read;

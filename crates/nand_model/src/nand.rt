@@ -1,3 +1,4 @@
+//! The flash in memory and its calls: reads that may fail, and programs and erases that may fail or be cut.
 ghost use Rattle.std.specs.Prelude.{◌≡◌, ◌<◌, ◌≤◌, ◌^◌, ℕ, length};
 ghost use Rattle.ft_base.specs.Count.{last_count};
 ghost use Rattle.nand_model.specs.Blocks.{pages_at};

@@ -1,3 +1,4 @@
+//! The one copy by which a page's bytes enter memory that has room for them.
 ghost use Rattle.std.specs.Prelude.{◌≡◌, ◌<◌, ◌≤◌, ◌+◌, ◌==◌, ℕ, if◌then◌else◌, max, slice_index_or, vec_len};
 ghost use Rattle.std.specs.Mem.{FitsInMemory};
 ghost use Rattle.std.specs.Vec.{vec_capacity};

@@ -1,3 +1,4 @@
+//! The errors of an opening: flash that is refused, devices that fail, power that is lost, and no memory.
 ghost use Rattle.std.specs.Prelude.{◌≡◌};
 ghost use Rattle.op_log.specs.Refusals.{opening_refusal};
 

@@ -1,3 +1,4 @@
+//! The log: changes are pushed to it one by one, and a flush programs all of them as its next page.
 ghost use Rattle.std.specs.Prelude.{◌≡◌, ◌≢◌, ◌<◌, ◌≤◌, ◌-◌, [], length, IfOk, OnOk, OnErr, IsOk, IsTrue};
 ghost use Rattle.std.specs.List.{list_all};
 ghost use Rattle.ft_base.specs.Layout.{log_pages, page_records};

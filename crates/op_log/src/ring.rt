@@ -1,3 +1,4 @@
+//! The buffer of a log: a ring for the most records that any page takes, allocated once.
 ghost use Rattle.std.specs.Prelude.{◌≡◌, ◌<◌, ◌≤◌, ◌++◌, ◌∷◌, [], length, take, IfOk};
 ghost use Rattle.ft_base.specs.Layout.{most_page_records};
 

@@ -1,3 +1,4 @@
+//! Stamps, which tell the pages of one checkpoint and its log from pages that were left by others.
 ghost use Rattle.std.specs.Prelude.{◌≡◌};
 ghost use Rattle.cache_model.specs.Loading.{has_stamp, stamp_of};
 ghost use Rattle.op_log.specs.Stamps.{named};

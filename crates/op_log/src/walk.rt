@@ -1,3 +1,4 @@
+//! Pages of records, read and applied to a map, and the walk along a log up to the first page that doesn't continue it.
 ghost use Rattle.std.specs.Prelude.{◌≡◌, ◌==◌, ◌<◌, ◌≤◌, ◌+◌, IfOk, IfErr, IfSome, if◌then◌else◌, IsTrue, Some, None, Ok, [], length};
 ghost use Rattle.std.specs.Bool.{OnTrue};
 ghost use Rattle.std.specs.Option.{unwrap_or};

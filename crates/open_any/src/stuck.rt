@@ -1,3 +1,5 @@
+//! The program's one error, which tells no cause.
+
 use ft_media::MediaError;
 use std::alloc::AllocError;
 

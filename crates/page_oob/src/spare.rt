@@ -1,3 +1,4 @@
+//! The spelling of spare bytes, one for each meaning, and a reader that accepts no other bytes.
 ghost use Rattle.std.specs.Prelude.{◌≡◌, ◌+◌, ◌≤◌, ◌++◌, IsTrue, MatchOption, length, take, drop, option_map};
 ghost use Rattle.std.specs.Int.{w64};
 ghost use Rattle.cache_model.specs.Spelling.{SpareFields, spare_fields, spelled_spare, spare_kind_byte, suits_kind, spare_in_range, IsSpare};

@@ -1,3 +1,4 @@
+//! One step of a rebuild: a page is read from the rig beneath and joined to the buffers by exclusive or.
 ghost use Rattle.std.specs.Prelude.{◌≡◌, ◌<◌, true, OnOk, IsErrOf};
 ghost use Rattle.ft_base.specs.declared.block.Page.TheVariants as content;
 ghost use Rattle.ft_media.specs.State.{failed, lost};

@@ -1,3 +1,5 @@
+//! The trait `Media` for a rig with parity. It shows no parity page, and hides a failed read if its page is rebuilt.
+
 use crate::ParityRig;
 use crate::start::Start;
 use crate::steps::{erase_at, program_at, read_at};

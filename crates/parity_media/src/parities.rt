@@ -1,3 +1,4 @@
+//! The running parity of each erase block: each program joins it, and each erase clears it.
 ghost use Rattle.std.specs.Prelude.{◌≡◌, ◌<◌, ◌^◌, length};
 
 use ft_base::{Block, Spare, zero_block};

@@ -1,3 +1,4 @@
+//! The rebuild of a page that can't be read, from all other pages of its erase block.
 ghost use Rattle.std.specs.Prelude.{◌≡◌, ◌<◌, ◌+◌, OnOk, OnErr, IsErrOf};
 ghost use Rattle.ft_base.specs.declared.block.Page.TheVariants as content;
 ghost use Rattle.ft_media.specs.State.{failed, lost};

@@ -1,3 +1,4 @@
+//! The rig with parity, its laws, and the trait `Rig` for it. Beneath, each erase block has one page more.
 ghost use Rattle.parity_media.specs.Since.{CountedBeneath};
 ghost use Rattle.parity_media.specs.Tied.{Tied};
 

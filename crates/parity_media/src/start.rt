@@ -1,3 +1,4 @@
+//! The start of counting, as numbers for proofs alone. They tie the counts of a rig with parity to the rig beneath.
 ghost use Rattle.std.specs.Prelude.{ℕ};
 
 use std::marker::Brand;

@@ -1,3 +1,4 @@
+//! The flash calls of a rig with parity, as steps on the rig beneath and on the running parities.
 ghost use Rattle.std.specs.Prelude.{◌≡◌, ◌<◌, ◌+◌, ◌==◌, ℕ, true, false, is_ok, Some, None, OnOk, OnErr, IfOk, IsErrOf, if◌then◌else◌};
 ghost use Rattle.ft_base.specs.Contents.{set};
 ghost use Rattle.ft_base.specs.Count.{bumped};

@@ -1,3 +1,4 @@
+//! The counts of a rig with parity that may differ from the rig beneath: programs, failed flash calls, and power cuts.
 ghost use Rattle.std.specs.Prelude.{◌≡◌, ◌≤◌};
 ghost use Rattle.ft_base.specs.Count.{last_count};
 

@@ -1,3 +1,5 @@
+//! A rig with parity through all calls of `Media` and `Rig`, and the plain programs on worked pages.
+
 use crate::ParityRig;
 use crate::plain::{xor_of, xor_page};
 use ft_base::{Block, Outcome, Page, Place, Spare, is_same, pattern, zero_block};

@@ -1,3 +1,4 @@
+//! Flash that fails at chosen calls, and one erase block whose first pages are programmed.
 ghost use Rattle.std.specs.Prelude.{◌≡◌, ◌≤◌, Some, OnOk};
 
 use ft_base::{Block, Place, Spare, pattern, zero_block};

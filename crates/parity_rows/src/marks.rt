@@ -1,3 +1,5 @@
+//! When an erase block has its parity: after a cut, after a failed erase, after a failed parity page, and before a fit.
+
 use crate::filled::{failing, fit_and_fill, tagged};
 use ft_base::{Outcome, Place, Spare, is_same, zero_block};
 use ft_media::{Media, MediaError, PageRead, Rig};

@@ -1,3 +1,4 @@
+//! Reads that fail: one failure in a full block is made good, and two are told. Without a parity page one is told.
 ghost use Rattle.std.specs.Prelude.{◌<◌, ◌≤◌};
 
 use crate::filled::{failing, fit_and_fill, tagged};

@@ -1,3 +1,4 @@
+//! Log blocks over flash in memory: begun, adopted, filled and released, and after a program that failed.
 ghost use Rattle.std.specs.Prelude.{◌≡◌, ◌<◌, ◌≤◌, length, IfSome};
 ghost use Rattle.std.specs.Bool.{OnTrue};
 ghost use Rattle.ft_media.specs.Media.{IsNextPage};

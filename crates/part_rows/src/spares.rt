@@ -1,3 +1,5 @@
+//! The spare bytes of a data page, byte by byte, and bytes that the reader refuses.
+
 use page_oob::{SpareKind, read_spare, write_spare};
 
 const DATA_PAGE: [u8; 32] = *b"FTSP\x01\0\0\0\0\0\0\0\0\0\0\x05\0\0\0\0\0\0\0\0\0\0\0\0\0\0\0\0";

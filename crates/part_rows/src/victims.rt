@@ -1,3 +1,5 @@
+//! The group that gives way, over worked maps: clean, with a data block, and with the fewest held pages in it.
+
 use ft_base::{Geometry, Place, Record};
 use mapping::Map;
 use silent_evict::{Victims, plain};

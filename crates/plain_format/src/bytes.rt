@@ -1,3 +1,5 @@
+//! Bytes and big-endian numbers of a page, put in and read byte by byte. Behind the page all is zero.
+
 use ft_base::Block;
 
 /// Puts bytes into a page, from byte `at` on. Bytes that would lie behind the page are left out.

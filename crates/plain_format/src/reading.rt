@@ -1,3 +1,5 @@
+//! Headers, records and seals read from a page, field by field, each held against its range.
+
 use crate::bytes::{are_zero, byte, u32_at, u64_at, u128_at};
 use crate::spelling::{record_at, record_bytes};
 use ft_base::{Block, Place, Record};

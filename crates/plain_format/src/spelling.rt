@@ -1,3 +1,5 @@
+//! Headers, records and seals spelled into a page, field by field, in both formats and both widths.
+
 use crate::bytes::put;
 use ft_base::{Block, Record, zero_block};
 use record_codec::{Header, PageKind, Seal, Totals};

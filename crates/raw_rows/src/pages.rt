@@ -1,3 +1,5 @@
+//! Raw pages and their meaning: all ones, sealed, and sealed with one bit flipped.
+
 use ft_base::{Block, Page, Spare, is_same, pattern, zero_block};
 use ft_media::PageRead;
 use sealed_media::plain::page_of;

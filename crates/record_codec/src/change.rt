@@ -1,3 +1,4 @@
+//! A record as a line of bytes: one spelling in each width, and a reader that accepts no other line.
 ghost use Rattle.std.specs.Prelude.{◌≡◌, ◌<◌, ◌^◌, ◌++◌, IsTrue, nat_lt, take, drop};
 ghost use Rattle.cache_model.specs.Spelling.{has_widths, is_sound, goes_on, page_limit, record_bytes, set_limit, zeros};
 ghost use Rattle.cache_model.specs.Reading.{first_set, record_in, second_set};

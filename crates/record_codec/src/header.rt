@@ -1,3 +1,4 @@
+//! The header with which a page of records or a seal begins: one spelling, and a reader that accepts no other bytes.
 ghost use Rattle.std.specs.Prelude.{◌≡◌, ◌↔◌, ◌<◌, ◌^◌, ◌&&◌, IsTrue, MatchOption};
 ghost use Rattle.cache_model.specs.declared.format.Header.{Header as HeaderValue};
 ghost use Rattle.cache_model.specs.Spelling.{spelled_header, header_in_range, is_format, is_log_or_map, kind_byte, IsHeaderOf, IsPageHeaderOf};

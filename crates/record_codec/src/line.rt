@@ -1,3 +1,4 @@
+//! Numbers and bytes put into a line or a page and taken out of it, and tests for zero bytes.
 ghost use Rattle.std.specs.Prelude.{◌≡◌, ◌↔◌, ◌+◌, ◌-◌, ◌≤◌, ◌<◌, ◌^◌, ◌++◌, IsTrue, length, take, drop, slice_index, EachIndex};
 ghost use Rattle.std.specs.Int.{w32, w64, w128, to_be_bytes};
 ghost use Rattle.cache_model.specs.Spelling.{zeros};

@@ -1,3 +1,4 @@
+//! Pages of records: a header, the records one behind the other, and zero bytes up to the end.
 ghost use Rattle.std.specs.Prelude.{◌≡◌, ◌+◌, ◌*◌, ◌≤◌, ◌<◌, ◌++◌, List, IsTrue, length, take, drop, flat_map, Some, if◌then◌else◌};
 ghost use Rattle.std.specs.Bool.{OnTrue, OnFalse};
 ghost use Rattle.std.specs.List.{list_all};

@@ -1,3 +1,4 @@
+//! Seals: a header, the numbers of the cache, totals in format 2, and zero bytes up to the end.
 ghost use Rattle.std.specs.Prelude.{◌≡◌, ◌↔◌, ◌≤◌, ◌&&◌, nat_le, Option, IsTrue, MatchOption};
 ghost use Rattle.cache_model.specs.declared.format.Header.{Header as HeaderValue};
 ghost use Rattle.cache_model.specs.declared.format.Seal.{Seal as SealValue};

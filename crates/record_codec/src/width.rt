@@ -1,3 +1,4 @@
+//! The two widths of records, and what follows from each: bytes of a record, records of a page, and page numbers.
 ghost use Rattle.std.specs.Prelude.{◌≡◌, ◌≤◌, ◌+◌, ◌*◌};
 ghost use Rattle.cache_model.specs.Spelling.{is_wide, most_records_of, page_limit, record_bytes};
 

@@ -1,3 +1,4 @@
+//! The checkpoint from which an opening loads, refused if there is none or if it was made for other numbers.
 ghost use Rattle.std.specs.Prelude.{◌≡◌, Ok, IfOk, IfErr};
 ghost use Rattle.ft_media.specs.Reads.{ReadsFlash};
 ghost use Rattle.cache_model.specs.Loading as loading;

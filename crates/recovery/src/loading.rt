@@ -1,3 +1,4 @@
+//! Loading: a checkpoint and its log are applied to an empty map, and then the page of each entry is looked at.
 ghost use Rattle.std.specs.Prelude.{◌≡◌, ◌<◌, ◌≤◌, Ok, IfOk, IfErr, OnOk};
 ghost use Rattle.std.specs.FinMap.{entries};
 ghost use Rattle.ft_base.specs.Layout.{checkpoint_at, checkpoint_pages};

@@ -1,3 +1,4 @@
+//! The last test of loading: the page of each entry has to be whole.
 ghost use Rattle.std.specs.Prelude.{◌≡◌, ◌<◌, true, Ok, Err, IfOk, IfErr, OnOk, if◌then◌else◌};
 ghost use Rattle.std.specs.FinMap.{entries};
 ghost use Rattle.ft_base.specs.Layout.{blocks};

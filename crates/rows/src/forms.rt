@@ -1,3 +1,5 @@
+//! Traces in the form of MSR Cambridge: requests that are widened to whole blocks, and lines that are refused.
+
 use crate::replay::run_on;
 use mem_rig::MemRig;
 use std::alloc::{AllocError, Global};

@@ -1,3 +1,5 @@
+//! Traces of words, and the words of the command line: the text of each run, its status, and its calls of the disk.
+
 use flashtier_cli::run;
 use ft_base::{MemSink, MemSource};
 use ft_media::{Counts, Rig};

@@ -1,3 +1,4 @@
+//! The contract of raw media: the bytes that each call leaves in pages, and the one premise on torn pages.
 ghost use Rattle.std.specs.Prelude.{◌≡◌, ◌<◌, ◌≤◌, ◌⊎◌, ℕ, true, false, None, OnOk, OnErr, IsErrOf};
 ghost use Rattle.ft_base.specs.declared.block.Block.{Block};
 ghost use Rattle.ft_base.specs.Contents.{HasValue, flushed, set};

@@ -1,3 +1,4 @@
+//! The raw rig in memory: it has the bytes of programmed pages, and draws bytes for torn ones.
 ghost use Rattle.std.specs.Prelude.{◌≡◌};
 ghost use Rattle.mem_rig.specs.Rig.{state_of};
 ghost use Rattle.sealed_media.specs.Seals.{seal_blocks, seal_pages};

@@ -1,3 +1,4 @@
+//! The trait of raw rigs: raw media that a caller fits anew, stops and powers.
 ghost use Rattle.std.specs.Prelude.{◌≡◌, ◌<◌, ◌≤◌, length, OnOk, OnErr};
 ghost use Rattle.ft_base.specs.declared.block.Place.{Place};
 ghost use Rattle.ft_media.specs.Rig.{Armed, Cut, powered};

@@ -1,3 +1,5 @@
+//! The traits `Media` and `Rig` over a raw rig: pages are sealed when programmed, and classified by seal when read.
+
 use crate::sealing::take_out;
 use crate::{RawPage, RawRig, seal};
 use ft_base::{Block, Outcome, Place, Spare};

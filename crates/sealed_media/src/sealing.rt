@@ -1,3 +1,4 @@
+//! Seals, a SHA-256 in the last bytes of a page: how a page is sealed, and what its seal says of it.
 ghost use Rattle.std.specs.Prelude.{◌≡◌, ◌↔◌, ◌+◌, ◌≤◌, ◌++◌, Ok, IsTrue, length, take, drop};
 ghost use Rattle.ft_media.specs.declared.media.PageRead.TheVariants as read;
 ghost use Rattle.ft_base.specs.declared.block.Page.TheVariants as content;

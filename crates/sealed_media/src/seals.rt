@@ -1,3 +1,4 @@
+//! The part of raw pages for which the rig in memory has no room: 32 bytes of each page, by place.
 ghost use Rattle.std.specs.Prelude.{◌≡◌, ◌<◌, ◌*◌, ◌^◌, ℕ, length};
 
 use ft_base::Place;

@@ -1,3 +1,4 @@
+//! Raw pages put together from a page that was read in memory, and taken apart before one is programmed.
 ghost use Rattle.std.specs.Prelude.{◌≡◌};
 ghost use Rattle.ft_base.specs.declared.block.Page.{Page};
 ghost use Rattle.ft_media.specs.Media.{Found};

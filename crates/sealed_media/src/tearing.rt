@@ -1,3 +1,4 @@
+//! Bytes for torn pages, drawn at random from a number and a place, and never sealed.
 ghost use Rattle.std.specs.Prelude.{◌≡◌};
 ghost use Rattle.sealed_media.specs.Seal as page;
 ghost use Rattle.sealed_media.specs.Tearing as spec;

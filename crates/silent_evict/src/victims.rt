@@ -1,3 +1,4 @@
+//! The search for the group that gives way, over one count for each erase block of the pool.
 ghost use Rattle.std.specs.Prelude.{◌≡◌, ℕ, IfOk, IfSome, IfNone};
 ghost use Rattle.silent_evict.specs.Candidates.{IsCandidate, IsVictim};
 

@@ -1,3 +1,4 @@
+//! The state of a cache, its counts, and the memory that is taken ahead of a write.
 ghost use Rattle.std.specs.Prelude.{◌≡◌, ◌≤◌, ◌+◌, ◌*◌, true, false, IsOk, OnOk, OnErr, count_by, length};
 ghost use Rattle.std.specs.FinMap.{entries};
 ghost use Rattle.ft_base.specs.Contents.{Contents};

@@ -1,3 +1,4 @@
+//! The commands of the cache: what each does to the list, what a crash within it leaves, and what it costs.
 ghost use Rattle.std.specs.Prelude.{◌≡◌, ◌≤◌, ◌<◌, ◌+◌, ◌-◌, ◌++◌, [], ℕ, length, true, false, Some, None, OnOk, OnErr, IfOk, IsOk, IsErrOf};
 ghost use Rattle.std.specs.FinMap.{get};
 ghost use Rattle.ft_base.specs.Contents.{Contents};

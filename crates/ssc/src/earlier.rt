@@ -1,3 +1,4 @@
+//! The buffered writes that are not committed yet, in their order, each with the page that its address had before.
 ghost use Rattle.std.specs.Prelude.{◌≡◌, ◌<◌, ◌++◌, ◌∷◌, [], length, IfOk};
 ghost use Rattle.ft_base.specs.Layout.{most_page_records};
 ghost use Rattle.ssc.specs.Places.{places_kept, places_noted};

@@ -1,3 +1,4 @@
+//! The errors of commands: too many dirty groups, a flash that fails, power that is lost, and no memory.
 ghost use Rattle.std.specs.Prelude.{◌≡◌};
 ghost use Rattle.ssc.specs.Errors as errors;
 

@@ -1,3 +1,4 @@
+//! Formatting, as a call of the cache: the flash then stands for an empty list.
 ghost use Rattle.std.specs.Prelude.{◌≡◌, OnOk, IsErrOf, ℕ};
 ghost use Rattle.std.specs.FinMap.{empty};
 ghost use Rattle.ft_media.specs.Drives.{DrivesFlash};

@@ -1,3 +1,4 @@
+//! The search for dirty addresses, over the entries in the order of their pages, and then sorted.
 ghost use Rattle.std.specs.Prelude.{◌≡◌, ◌≤◌, ◌+◌, ◌++◌, Option, OnOk, OnErr, length, take};
 ghost use Rattle.std.specs.FinMap.{entries};
 ghost use Rattle.ssc.specs.CacheState.{entries_of, geometry_of};

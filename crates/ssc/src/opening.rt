@@ -1,3 +1,4 @@
+//! Openings of a cache, in two steps: the list is loaded, and then a checkpoint of it is made.
 ghost use Rattle.std.specs.Prelude.{◌≡◌, ◌<◌, ◌≤◌, ◌+◌, ◌++◌, Ok, IfOk, IfErr, OnOk, OnErr};
 ghost use Rattle.ft_base.specs.declared.geometry.Geometry.{Geometry};
 ghost use Rattle.ft_base.specs.declared.block.Place.{Place};

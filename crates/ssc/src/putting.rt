@@ -1,3 +1,4 @@
+//! Entries put in, taken out and marked clean, and whether this is committed at once or when the buffer is full.
 ghost use Rattle.std.specs.Prelude.{◌≡◌, ◌≢◌, ◌↔◌, ◌⊎◌, ◌≤◌, ◌<◌, ◌+◌, [], length, true, false, IsTrue, IsOk, Some, OnOk};
 ghost use Rattle.std.specs.FinMap.{get, insert};
 ghost use Rattle.ft_base.specs.declared.record.Record.TheVariants.{Clean};

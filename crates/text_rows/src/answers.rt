@@ -1,3 +1,4 @@
+//! Worked runs of the plain disk: answers, ends, runs that can be, lost block writes, and blocks that are written back.
 ghost use Rattle.std.specs.Prelude.{◌≡◌};
 ghost use Rattle.trace_model.specs.Plain.{AreAddressed};
 

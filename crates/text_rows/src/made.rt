@@ -1,3 +1,5 @@
+//! The lines of two made traces, one over a small volume and one over a great one.
+
 use ft_base::Geometry;
 use std::test::Fail;
 use trace_gen::TraceGen;

@@ -1,3 +1,4 @@
+//! A volume that writes back: its reads, reports and idle steps, blocks that go to the disk, and openings.
 ghost use Rattle.std.specs.Prelude.{◌≡◌, ◌<◌, [], ℕ, false, OnOk, IfOk, Some};
 ghost use Rattle.std.specs.FinMap.{get};
 ghost use Rattle.ft_base.specs.declared.told.Mode.TheVariants.{Back};

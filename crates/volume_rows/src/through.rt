@@ -1,3 +1,4 @@
+//! A volume that writes through: its calls of the disk, its report, openings after a cut, and addresses out of range.
 ghost use Rattle.std.specs.Prelude.{◌≡◌, IfOk};
 ghost use Rattle.ft_base.specs.declared.told.Mode.TheVariants.{Through};
 ghost use Rattle.ft_volume.specs.Volume.{told_for};

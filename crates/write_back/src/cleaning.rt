@@ -1,3 +1,4 @@
+//! Writing a group back, step by step: owed writes, its dirty blocks, a flush of the disk, and then clean marks.
 ghost use Rattle.std.specs.Prelude.{◌≡◌, ◌<◌, ◌≤◌, ◌==◌, ◌+◌, ◌*◌, ℕ, true, false, not, ◌&&◌, length, OnOk, OnErr, IfOk};
 ghost use Rattle.ft_base.specs.Contents.{Contents};
 ghost use Rattle.std.specs.FinMap.{get};

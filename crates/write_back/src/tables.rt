@@ -1,3 +1,4 @@
+//! The table of dirty groups, made from the dirty addresses that a cache lists after it was loaded.
 ghost use Rattle.std.specs.Prelude.{◌≡◌, ◌≤◌, ◌/◌, IfOk, length, map};
 ghost use Rattle.ft_base.specs.declared.block.Place.{Place};
 ghost use Rattle.ft_base.specs.declared.block.Page.{Page};

@@ -1,3 +1,4 @@
+//! The volume that writes back: made, opened, and brought up again by the first request after a cut or a failure.
 ghost use Rattle.std.specs.Prelude.{◌≡◌, List, [], length, false, OnOk, IfOk};
 ghost use Rattle.ft_base.specs.declared.told.Mode.TheVariants.{Back};
 ghost use Rattle.ft_base.specs.PlainDisk.{BlockWrite};

@@ -1,3 +1,4 @@
+//! Writes to a volume that writes back. If a new dirty group finds the table full, the oldest is written back first.
 ghost use Rattle.std.specs.Prelude.{◌≡◌, ◌<◌, ◌≤◌, ◌+◌, ◌/◌, ℕ, length, [], true, false, OnOk, OnErr};
 ghost use Rattle.std.specs.FinMap.{get};
 ghost use Rattle.ft_base.specs.declared.told.Ack.TheVariants as acks;

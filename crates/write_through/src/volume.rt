@@ -1,3 +1,4 @@
+//! The volume that writes through: made, opened, and brought up again by the first request after a cut or a failure.
 ghost use Rattle.std.specs.Prelude.{◌≡◌, [], false, OnOk, IfOk};
 ghost use Rattle.ft_base.specs.declared.told.Mode.TheVariants.{Through};
 ghost use Rattle.ft_volume.specs.Opening.{Creates, ImageIs, IsOpened, MayOpen, OpensVolume, nothing_held};

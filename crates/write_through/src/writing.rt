@@ -1,3 +1,4 @@
+//! The order of a write through the cache: memory, the old block dropped, the disk written and flushed, the block held.
 ghost use Rattle.std.specs.Prelude.{◌≡◌, ◌⊎◌, ◌<◌, ◌≤◌, ◌+◌, ◌==◌, if◌then◌else◌, ℕ, true, false, OnOk, OnErr, IfErr, IsErrOf};
 ghost use Rattle.ft_base.specs.Contents.{Contents, HasValue, flushed, set};
 ghost use Rattle.ft_base.specs.Count.{RoseBy};

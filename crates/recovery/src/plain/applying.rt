@@ -1,3 +1,4 @@
+//! The plain replay: pages from a list, first the checkpoint and then its log, are applied to a map.
 ghost use Rattle.std.specs.Prelude.{◌≡◌, ◌<◌, ◌≤◌, Some, None, Ok, Err, IfOk, MatchOption, option_and_then, if◌then◌else◌};
 ghost use Rattle.ft_base.specs.Layout.{checkpoint_pages};
 ghost use Rattle.cache_model.specs.Reading.{read_records as records_read, read_page_header as header_read};

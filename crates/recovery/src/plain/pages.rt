@@ -1,3 +1,4 @@
+//! The plain look at one page of a list: whether it is whole, and the header, seal or stamp that it has.
 ghost use Rattle.std.specs.Prelude.{◌≡◌, ◌<◌, ◌≤◌, IfSome, option_map};
 ghost use Rattle.ft_base.specs.Layout.{most_page_records};
 ghost use Rattle.cache_model.specs.Loading as loading;

@@ -1,3 +1,4 @@
+//! The plain test of places: among the pages of a list, the page of each entry has to be whole.
 ghost use Rattle.std.specs.Prelude.{◌≡◌, Ok, Err, IfOk, MatchOption};
 ghost use Rattle.std.specs.FinMap.{entries};
 ghost use Rattle.cache_model.specs.Loading as loading;

@@ -1,3 +1,4 @@
+//! The plain choice of a checkpoint: both regions of a list of pages are searched, and the later complete one counts.
 ghost use Rattle.std.specs.Prelude.{◌≡◌, ◌<◌, option_map};
 ghost use Rattle.cache_model.specs.Loading as loading;
 ghost use Rattle.recovery.specs.Plain.{page_listed, complete_of, complete_in, named};
