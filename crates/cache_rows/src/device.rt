@@ -1,4 +1,4 @@
-//! The six commands of the cache: what it holds before a cut and after it, what it refuses, what it lists, and how much
+//! The commands of the cache: what it holds before a cut and after it, what it refuses, what it lists, and how much
 //! it writes.
 
 use crate::bench::{Fact, Line, SIZE, first_wrong};

@@ -214,7 +214,7 @@ const REFUSED: [Line; 12] = [
     Line::Map,
     Line::Seal(0, 0, 1, 2),
     Line::Refused(OpenError::NotFormatted),
-    // The same, where the other region is complete.
+    // The same if the other region is complete.
     Line::Seal(1, 1, 0, 0),
     Line::Opens(0, NOTHING_READ),
     Line::Heads(0, 2),

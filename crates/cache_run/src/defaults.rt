@@ -6,7 +6,7 @@ ghost use Rattle.cache_run.specs.Default.{IsDefault};
 use ft_base::{Ack, Geometry};
 use ft_volume::Options;
 
-/// What a volume is made with where no word says otherwise: 64 pages of an erase block, 128 data blocks and 16 log blocks
+/// What a volume is made with if no word says otherwise: 64 pages of an erase block, 128 data blocks and 16 log blocks
 /// at most, 2 erase blocks of a log region, 1,048,576 blocks, and 64 dirty groups that an idle step leaves alone. Each write
 /// is acknowledged for good when it answers.
 pub fn default_options() -> Options

@@ -19,7 +19,7 @@ use ft_volume::{Report, Volume, VolumeError};
 use std::alloc::{AllocError, Global};
 use trace_replay::{Ended, end_at};
 
-/// Turns power on again where it was lost. After any other refusal the run ends.
+/// Turns power on again if it was lost. After any other refusal the run ends.
 fn power_again<R: Rig>(rig: &mut R, error: VolumeError) -> Result<(), Ended>
     requires range { error ≢ volume_error.OutOfVolume }
     ensures lost { OnOk result (error ≡ volume_error.PowerLost) }

@@ -76,7 +76,7 @@ pub enum Command {
     },
 }
 
-/// The command that the words after the program's name say, and the devices that it runs over; or None where they are no
+/// The command that the words after the program's name say, and the devices that it runs over; or None if they are no
 /// command.
 ///
 /// The first word is `replay`, `gen`, `inspect`, `cost` or `sweep`. After it come options in any order, each at most once, as
@@ -131,7 +131,7 @@ pub fn command_of(alloc: Global, words: &[String]) -> Result<Option<Spoken>, All
     Ok(None)
 }
 
-/// The mode, the options and the devices that these words after the word of a command say, or None where they say none.
+/// The mode, the options and the devices that these words after the word of a command say, or None if they say none.
 fn run_of(alloc: Global, others: &[String]) -> Result<Option<(Mode, Options, Devices)>, AllocError>
     ensures some { IfOk result (λ it. IfSome it (λ it. (word : Text)
         → IsRunOf word (word ∷ map string_bytes others.now) (told_for it.0 it.1) × IsOver (word ∷ map string_bytes others.now) it.2)) }
@@ -146,7 +146,7 @@ fn run_of(alloc: Global, others: &[String]) -> Result<Option<(Mode, Options, Dev
     Ok(Some(said))
 }
 
-/// The command that `replay` and these words after it say, or None where they are none.
+/// The command that `replay` and these words after it say, or None if they are none.
 fn replay_command(alloc: Global, others: &[String]) -> Result<Option<Spoken>, AllocError>
     ensures command { IfOk result (λ c. IfSome c (AreWordsFor (codes "replay" ∷ map string_bytes others.now))) }
     ensures none { IfOk result (λ c. IfNone c ((o : Told) → IsCommand (codes "replay" ∷ map string_bytes others.now) o → ⊥)) }
@@ -195,7 +195,7 @@ fn cost_command(alloc: Global, others: &[String]) -> Result<Option<Spoken>, Allo
     Ok(Some(Spoken { command, devices }))
 }
 
-/// The command that `inspect` and these words after it say, or None where they are none.
+/// The command that `inspect` and these words after it say, or None if they are none.
 fn inspect_command(alloc: Global, others: &[String]) -> Result<Option<Spoken>, AllocError>
     ensures command { IfOk result (λ c. IfSome c (AreWordsFor (codes "inspect" ∷ map string_bytes others.now))) }
     ensures none { IfOk result (λ c. IfNone c ((o : Told) → IsInspect (codes "inspect" ∷ map string_bytes others.now) o → ⊥)) }
@@ -209,7 +209,7 @@ fn inspect_command(alloc: Global, others: &[String]) -> Result<Option<Spoken>, A
     }
 }
 
-/// The command that `gen` and these words after it say, or None where they are none.
+/// The command that `gen` and these words after it say, or None if they are none.
 fn gen_command(alloc: Global, others: &[String]) -> Result<Option<Spoken>, AllocError>
     ensures command { IfOk result (λ c. IfSome c (AreWordsFor (codes "gen" ∷ map string_bytes others.now))) }
     ensures none { IfOk result (λ c. IfNone c ((o : Told) (number count : ℕ)

@@ -1,6 +1,6 @@
 //! The words after the program's name, read as a command.
 //!
-//! The program relies on `command_of` alone: unless memory is refused, it answers a command exactly where the
+//! The program relies on `command_of` alone: unless memory is refused, it answers a command exactly when the
 //! words are one, with just what they say (`specs/Command`), and the devices that it runs over. By `command_law` no
 //! words say two things.
 #![tactic(auto)]

@@ -68,7 +68,7 @@ fn command<'a>(alloc: Global, names: &[&'a str]) -> Result<Command<'a>, AllocErr
     Ok(command)
 }
 
-/// What clap finds in the words, or None where it refuses them.
+/// What clap finds in the words, or None if it refuses them.
 fn parse<'a>(
     alloc: Global,
     names: &[&'a str],
@@ -114,7 +114,7 @@ fn all_fair(words: &[String]) -> bool
     true
 }
 
-/// The options of these names that the words spell, or None where they spell none.
+/// The options of these names that the words spell, or None if they spell none.
 fn options<'a>(
     alloc: Global,
     names: &[&'a str],
@@ -133,7 +133,7 @@ fn options<'a>(
     parse(alloc, names, words)
 }
 
-/// The options of a run that the words spell, or None where they spell none.
+/// The options of a run that the words spell, or None if they spell none.
 pub(crate) fn run_options<'a>(
     alloc: Global,
     words: &'a [String],
@@ -175,7 +175,7 @@ pub(crate) fn cost_options<'a>(
     options(alloc, COST_NAMES.as_slice(), words)
 }
 
-/// The options of a made trace that the words spell, or None where they spell none.
+/// The options of a made trace that the words spell, or None if they spell none.
 pub(crate) fn gen_options<'a>(
     alloc: Global,
     words: &'a [String],
@@ -202,7 +202,7 @@ pub(crate) fn sweep_options<'a>(
     options(alloc, SWEEP_NAMES.as_slice(), words)
 }
 
-/// The value of the option of this name, where it is given.
+/// The value of the option of this name if it is given.
 #[tactic(auto, using(crate::proofs::ParseLemmas::value_row))]
 pub(crate) fn value<'a>(matches: &ArgMatches<'a>, name: &str) -> Option<&'a str>
     ensures { option_map (λ s. s.now) result ≡ value_of matches.now name.now }

@@ -5,7 +5,7 @@ const PLUS: u8 = b'+';
 
 const ZERO: u8 = b'0';
 
-/// Whether the word begins as a number does: with no plus, and with a zero only where that stands alone.
+/// Whether the word begins as a number does: with no plus, and with a zero only if that stands alone.
 fn begins_as_number(word: &str) -> bool
     ensures { IsTrue result ↔ ((0 < length word.now) × (slice_index word.now 0 ≢ PLUS)
         × (slice_index word.now 0 ≡ ZERO → length word.now ≡ 1)) }

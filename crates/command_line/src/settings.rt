@@ -27,7 +27,7 @@ use clap::ArgMatches;
 use ft_base::{Ack, Geometry, Outcome};
 use ft_volume::{Mode, Options};
 
-/// The number of the option of this name, or the default where it is not given.
+/// The number of the option of this name, or the default if it is not given.
 fn number(matches: &ArgMatches<'_>, name: &str, default: u64) -> Option<u64>
     ensures some { IfSome result (IsGiven decimal default (value_of matches.now name.now)) }
     ensures none { IfNone result ((n : ℕ) → n < 2 ^ 64 → IsGiven decimal default (value_of matches.now name.now) n → ⊥) }
@@ -38,7 +38,7 @@ fn number(matches: &ArgMatches<'_>, name: &str, default: u64) -> Option<u64>
     }
 }
 
-/// The same, where it fits 32 bits.
+/// The same if it fits 32 bits.
 fn small_number(matches: &ArgMatches<'_>, name: &str, default: u32) -> Option<u32>
     ensures some { IfSome result (IsGiven decimal default (value_of matches.now name.now)) }
     ensures none { IfNone result ((n : ℕ) → n < 2 ^ 32 → IsGiven decimal default (value_of matches.now name.now) n → ⊥) }
@@ -47,7 +47,7 @@ fn small_number(matches: &ArgMatches<'_>, name: &str, default: u32) -> Option<u3
     u32::try_from(number).ok()
 }
 
-/// The numbers of the cache, where each of them is in its range.
+/// The numbers of the cache if each of them is in its range.
 fn geometry_of(matches: &ArgMatches<'_>) -> Option<Geometry>
     ensures some { IfSome result (AreNumbers (value_of matches.now)) }
     ensures none { IfNone result ((g : Geometry) → AreNumbers (value_of matches.now) g → ⊥) }
@@ -60,7 +60,7 @@ fn geometry_of(matches: &ArgMatches<'_>) -> Option<Geometry>
     Geometry::new(p, c, l, j, size).ok()
 }
 
-/// How many dirty groups an idle step leaves alone, where there are so many data blocks.
+/// How many dirty groups an idle step leaves alone if there are so many data blocks.
 fn dirty_of(matches: &ArgMatches<'_>, data_blocks: u32) -> Option<u32>
     requires { data_blocks ≤ 512 }
     ensures some { IfSome result (IsDirty (value_of matches.now) data_blocks) }
@@ -191,7 +191,7 @@ fn flash_of(matches: &ArgMatches<'_>) -> Option<FlashKind>
     }
 }
 
-/// Whether there is parity, where this is the word.
+/// Whether there is parity if this is the word.
 fn parity_named(word: &str) -> Option<Parity>
     ensures some { IfSome result (λ p. word.now ≡ parity_word p) }
     ensures none { IfNone result ((p : Parity) → word.now ≡ parity_word p → ⊥) }
@@ -216,7 +216,7 @@ fn parity_of(matches: &ArgMatches<'_>) -> Option<Parity>
     }
 }
 
-/// What the options say of the devices, or None where one has no such value.
+/// What the options say of the devices, or None if one has no such value.
 fn devices_of(matches: &ArgMatches<'_>) -> Option<Devices>
     ensures some { IfSome result (SayDevices (value_of matches.now)) }
     ensures none { IfNone result ((d : Devices) → SayDevices (value_of matches.now) d → ⊥) }
@@ -226,7 +226,7 @@ fn devices_of(matches: &ArgMatches<'_>) -> Option<Devices>
     Some(Devices { flash, parity })
 }
 
-/// What the options say of the volume and of the devices beneath it, or None where one of them has no such value.
+/// What the options say of the volume and of the devices beneath it, or None if one of them has no such value.
 pub(crate) fn volume_of(matches: &ArgMatches<'_>) -> Option<(Mode, Options, Devices)>
     ensures some { IfSome result (λ it. Say (value_of matches.now) (told_for it.0 it.1) × SayDevices (value_of matches.now) it.2) }
     ensures none { IfNone result ((o : Told) → Say (value_of matches.now) o → ⊥) }
@@ -249,7 +249,7 @@ fn count_of(matches: &ArgMatches<'_>) -> Option<u64>
     Some(count)
 }
 
-/// What the options say of a made trace, its number and its lines, or None where one has no such value.
+/// What the options say of a made trace, its number and its lines, or None if one has no such value.
 pub(crate) fn made_of(matches: &ArgMatches<'_>) -> Option<(u64, u64)>
     ensures some { IfSome result (λ it. SayMade (value_of matches.now) it.0 it.1) }
     ensures none { IfNone result ((number count : ℕ) → SayMade (value_of matches.now) number count → ⊥) }

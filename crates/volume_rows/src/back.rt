@@ -153,7 +153,7 @@ fn a_volume_reads_what_was_written(rt: HostRuntime) -> Result<(), Fail> {
     Ok(())
 }
 
-/// The same over a volume that is opened from the media that the first steps left.
+/// The first of `steps` that goes wrong, over a volume that is opened from the media that the steps before left.
 fn first_wrong_reopened(
     alloc: Global,
     before: &[Step],
