@@ -13,7 +13,7 @@ use Rattle.trace_model.specs.declared.line.Line.{Line}
 use Rattle.trace_model.specs.declared.line.Line.TheVariants as line
 use Rattle.trace_model.specs.declared.ran.Ran.{Ran}
 use Rattle.trace_model.specs.Backs.{IsUncut}
-use Rattle.trace_model.specs.Fits.{FitsLine, FitsLost, block_count, is_cut, kept_since_flush}
+use Rattle.trace_model.specs.Fits.{FitsLine, FitsLost, armed_after, block_count, is_cut, kept_since_flush}
 use Rattle.trace_model.specs.Lost.{IsLeastLost}
 use Rattle.trace_model.specs.Readings.{Reading}
 use Rattle.trace_model.specs.Run.{answers_of, disk_without, disk_written, end_answers, read_backs, touched_after, with_blocks, with_line, writes_after}
@@ -94,6 +94,11 @@ pub record OwesRun (owes : List BlockWrite → Type 0) (stands : Image → Plain
   pub few : length recent ≤ most_lost
   pub since : length recent ≤ kept_since_flush run
   pub owing : Owing owes stands contents (length recent) (writes_after run)
+
+-- a fact of each run that left the rig's stops and the writes that are kept as they are now
+abbrev pub IfRan : (List BlockWrite → Type 0) → (Image → PlainDisk → Type 0) → State → List Recent → (List Ran → Type 0) → Type 0
+IfRan owes stands now recent fact = (run : List Ran) → OwesRun owes stands now.contents recent run → now.power.stops ≡ armed_after run
+    → fact run
 
 -- the disk has the block of the write at this place
 abbrev pub IsWrittenAt : List Recent → ℕ → PlainDisk → Type 0

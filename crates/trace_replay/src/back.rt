@@ -1,13 +1,13 @@
 //! Reading back after a cut: how many blocks of a request count, and how many block writes before it are lost.
-ghost use Rattle.std.specs.Prelude.{◌≡◌, ◌+◌, ◌≤◌, ◌<◌, ◌||◌, ◌&&◌, ◌==◌, nat_le, nat_lt, ◌^◌, ◌↔◌, ℕ, true, [], drop, take, length, All, IfOk, IfSome, OnOk};
+ghost use Rattle.std.specs.Prelude.{◌≡◌, ◌+◌, ◌≤◌, ◌<◌, ◌||◌, ◌&&◌, ◌==◌, nat_le, nat_lt, ◌^◌, ◌↔◌, ℕ, true, [], drop, take, length, IfOk, IfSome, OnOk};
 ghost use Rattle.std.specs.List.{list_any};
 ghost use Rattle.ft_base.specs.PlainDisk.{PlainDisk};
 ghost use Rattle.ft_volume.specs.Standing.{StandFor};
-ghost use Rattle.ft_volume.specs.Volume.{StaysOwner};
-ghost use Rattle.trace_replay.specs.MayRun.{CanCall};
-ghost use Rattle.trace_replay.specs.Owing.{IsClear, IsReadBack, IsWrittenAt};
+ghost use Rattle.trace_replay.specs.Leaves.{LeavesClear};
+ghost use Rattle.trace_replay.specs.MayRun.{CanReadBack};
+ghost use Rattle.trace_replay.specs.Owing.{IsReadBack, IsWrittenAt};
 ghost use Rattle.trace_replay.specs.Saying.{count_unless};
-ghost use Rattle.trace_replay.specs.Went.{Keeps, Went};
+ghost use Rattle.trace_replay.specs.Went.{Went};
 
 use crate::again::read_once;
 use crate::recent::{RecentWrites, Request};
@@ -88,20 +88,15 @@ fn read_recent<P: Script, R: Rig, V: Volume<R>>(
     kept: u64,
     work: &mut Work,
 ) -> Result<Option<Found>, Ended>
-    requires can { CanCall (V.owns volume.old) (R.state rig.old) }
-    requires clear { IsClear (V.owes volume.old (R.state rig.old).contents) (V.stands (V.state volume.old).told) (R.state rig.old).contents }
+    requires may { CanReadBack (V.owns volume.old) (V.owes volume.old) V.stands (V.state volume.old) (R.state rig.old) work.old.recent }
     requires request { request.lba + request.count ≤ (V.state volume.old).told.geometry.size }
     requires kept { kept ≤ request.count }
-    requires recent { All (λ r. r.lba < (V.state volume.old).told.geometry.size) work.old.recent }
-    ensures owner { StaysOwner (V.owns volume.new) (R.state rig.new).contents (V.state volume.old) (V.state volume.new) }
+    ensures leaves { LeavesClear (V.owns volume.new) (V.owes volume.new) V.stands (V.state volume.old) (V.state volume.new)
+        (R.state rig.old) (R.state rig.new) result }
     ensures found { IfOk result (λ o. IfSome o (λ found. (d : PlainDisk)
         → StandFor (V.stands (V.state volume.old).told) (R.state rig.old).contents d
         → IsReadBack request.lba request.count request.tag [] d kept 0
         → IsReadBack request.lba request.count request.tag work.old.recent d found.kept found.lost)) }
-    ensures kept { Keeps (V.stands (V.state volume.old).told) (V.stands (V.state volume.new).told) (R.state rig.old).contents
-        (R.state rig.new).contents }
-    ensures clear { OnOk result (IsClear (V.owes volume.new (R.state rig.new).contents) (V.stands (V.state volume.new).told)
-        (R.state rig.new).contents) }
     ensures went { Went P.state P.came P.broke P.knows count_unless 0 script.old script.new (R.state rig.old) (R.state rig.new) result }
     ensures recent { work.new.recent ≡ work.old.recent }
 {
@@ -130,18 +125,13 @@ fn read_back<P: Script, R: Rig, V: Volume<R>>(
     request: Request,
     work: &mut Work,
 ) -> Result<Option<Found>, Ended>
-    requires can { CanCall (V.owns volume.old) (R.state rig.old) }
-    requires clear { IsClear (V.owes volume.old (R.state rig.old).contents) (V.stands (V.state volume.old).told) (R.state rig.old).contents }
+    requires may { CanReadBack (V.owns volume.old) (V.owes volume.old) V.stands (V.state volume.old) (R.state rig.old) work.old.recent }
     requires request { request.lba + request.count ≤ (V.state volume.old).told.geometry.size }
-    requires recent { All (λ r. r.lba < (V.state volume.old).told.geometry.size) work.old.recent }
-    ensures owner { StaysOwner (V.owns volume.new) (R.state rig.new).contents (V.state volume.old) (V.state volume.new) }
+    ensures leaves { LeavesClear (V.owns volume.new) (V.owes volume.new) V.stands (V.state volume.old) (V.state volume.new)
+        (R.state rig.old) (R.state rig.new) result }
     ensures found { IfOk result (λ o. IfSome o (λ found. (d : PlainDisk)
         → StandFor (V.stands (V.state volume.old).told) (R.state rig.old).contents d
         → IsReadBack request.lba request.count request.tag work.old.recent d found.kept found.lost)) }
-    ensures kept { Keeps (V.stands (V.state volume.old).told) (V.stands (V.state volume.new).told) (R.state rig.old).contents
-        (R.state rig.new).contents }
-    ensures clear { OnOk result (IsClear (V.owes volume.new (R.state rig.new).contents) (V.stands (V.state volume.new).told)
-        (R.state rig.new).contents) }
     ensures went { Went P.state P.came P.broke P.knows count_unless 0 script.old script.new (R.state rig.old) (R.state rig.new) result }
     ensures recent { work.new.recent ≡ work.old.recent }
 {
@@ -161,17 +151,12 @@ pub(crate) fn settle<P: Script, R: Rig, V: Volume<R>>(
     request: Request,
     work: &mut Work,
 ) -> Result<Settled, Ended>
-    requires can { CanCall (V.owns volume.old) (R.state rig.old) }
-    requires clear { IsClear (V.owes volume.old (R.state rig.old).contents) (V.stands (V.state volume.old).told) (R.state rig.old).contents }
+    requires may { CanReadBack (V.owns volume.old) (V.owes volume.old) V.stands (V.state volume.old) (R.state rig.old) work.old.recent }
     requires request { request.lba + request.count ≤ (V.state volume.old).told.geometry.size }
-    requires recent { All (λ r. r.lba < (V.state volume.old).told.geometry.size) work.old.recent }
-    ensures owner { StaysOwner (V.owns volume.new) (R.state rig.new).contents (V.state volume.old) (V.state volume.new) }
+    ensures leaves { LeavesClear (V.owns volume.new) (V.owes volume.new) V.stands (V.state volume.old) (V.state volume.new)
+        (R.state rig.old) (R.state rig.new) result }
     ensures found { IfOk result (λ s. (d : PlainDisk) → StandFor (V.stands (V.state volume.old).told) (R.state rig.old).contents d
         → IsReadBack request.lba request.count request.tag work.old.recent d s.kept s.lost) }
-    ensures kept { Keeps (V.stands (V.state volume.old).told) (V.stands (V.state volume.new).told) (R.state rig.old).contents
-        (R.state rig.new).contents }
-    ensures clear { OnOk result (IsClear (V.owes volume.new (R.state rig.new).contents) (V.stands (V.state volume.new).told)
-        (R.state rig.new).contents) }
     ensures went { Went P.state P.came P.broke P.knows (λ s. s.cuts) 0 script.old script.new (R.state rig.old) (R.state rig.new) result }
     ensures forgot { OnOk result (work.new.recent ≡ []) }
 {

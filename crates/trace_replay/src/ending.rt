@@ -1,12 +1,10 @@
 //! The end of a run, if writes are on the media only after a flush.
-ghost use Rattle.std.specs.Prelude.{◌≡◌, ◌≤◌, ◌<◌, List, ℕ, [], All, OnOk, IfOk, IfErr};
-ghost use Rattle.ft_base.specs.PlainDisk.{BlockWrite};
+ghost use Rattle.std.specs.Prelude.{◌<◌, [], All, OnOk, IfOk, IfErr};
 ghost use Rattle.ft_volume.specs.Volume.{StaysOwner};
-ghost use Rattle.trace_model.specs.declared.ran.Ran.{Ran};
-ghost use Rattle.trace_model.specs.Fits.{armed_after, kept_since_flush};
+ghost use Rattle.trace_model.specs.Fits.{kept_since_flush};
 ghost use Rattle.trace_model.specs.Run.{writes_after};
-ghost use Rattle.trace_replay.specs.MayRun.{CanCall};
-ghost use Rattle.trace_replay.specs.Owing.{EndsFlushed, IsClear, IsFlushed, Owing, OwesRun, StandForOlder};
+ghost use Rattle.trace_replay.specs.MayRun.{CanCallOwing};
+ghost use Rattle.trace_replay.specs.Owing.{EndsFlushed, IfRan, IsClear, IsFlushed, StandForOlder};
 ghost use Rattle.trace_replay.specs.Ran.{IsTallyOf};
 ghost use Rattle.trace_replay.specs.Said.{Cuts};
 ghost use Rattle.trace_replay.specs.Spends.{SpendsSteps, touches_each};
@@ -30,26 +28,21 @@ pub(crate) fn say_end_later<P: Script, R: Rig, V: Volume<R>>(
     tally: &Tally,
     work: &mut Work,
 ) -> Result<Settled, Ended>
-    requires can { CanCall (V.owns volume.old) (R.state rig.old) }
+    requires may { CanCallOwing (V.owns volume.old) (V.owes volume.old) V.stands (V.state volume.old) (R.state rig.old) work.old.recent }
     requires within { All (λ a. a < (V.state volume.old).told.geometry.size) tally.now.touched.keys }
-    requires owing { (most : ℕ) × (writes : List BlockWrite) × Owing (V.owes volume.old (R.state rig.old).contents)
-        (V.stands (V.state volume.old).told) (R.state rig.old).contents most writes }
-    requires recent { All (λ r. r.lba < (V.state volume.old).told.geometry.size) work.old.recent }
     ensures owner { StaysOwner (V.owns volume.new) (R.state rig.new).contents (V.state volume.old) (V.state volume.new) }
-    ensures flushed { IfOk result (λ s. (run : List Ran) → OwesRun (V.owes volume.old (R.state rig.old).contents)
-        (V.stands (V.state volume.old).told) (R.state rig.old).contents work.old.recent run
-        → (R.state rig.old).power.stops ≡ armed_after run → IsTallyOf run tally.now
-        → IsFlushed P.came script.old script.new (V.stands (V.state volume.new).told) (R.state rig.new).contents s.cuts s.lost run) }
+    ensures flushed { IfOk result (λ s. IfRan (V.owes volume.old (R.state rig.old).contents) (V.stands (V.state volume.old).told) (R.state rig.old)
+        work.old.recent (λ run. IsTallyOf run tally.now
+        → IsFlushed P.came script.old script.new (V.stands (V.state volume.new).told) (R.state rig.new).contents s.cuts s.lost run)) }
     ensures clear { OnOk result (IsClear (V.owes volume.new (R.state rig.new).contents) (V.stands (V.state volume.new).told)
         (R.state rig.new).contents) }
     ensures cuts { IfOk result (λ s. Cuts s.cuts 0 (R.state rig.old) (R.state rig.new)) }
-    ensures images { (run : List Ran) → OwesRun (V.owes volume.old (R.state rig.old).contents) (V.stands (V.state volume.old).told)
-        (R.state rig.old).contents work.old.recent run → (R.state rig.old).power.stops ≡ armed_after run
-        → StandForOlder (V.stands (V.state volume.new).told) (R.state rig.new).contents (kept_since_flush run) (writes_after run) }
-    ensures ends { IfErr result (λ e. (run : List Ran) → OwesRun (V.owes volume.old (R.state rig.old).contents)
-        (V.stands (V.state volume.old).told) (R.state rig.old).contents work.old.recent run
-        → (R.state rig.old).power.stops ≡ armed_after run → IsTallyOf run tally.now
-        → EndsFlushed P.state P.came P.broke P.knows e script.old script.new (R.state rig.old) (R.state rig.new) run) }
+    ensures images { IfRan (V.owes volume.old (R.state rig.old).contents) (V.stands (V.state volume.old).told) (R.state rig.old)
+        work.old.recent (λ run. StandForOlder (V.stands (V.state volume.new).told) (R.state rig.new).contents (kept_since_flush run)
+        (writes_after run)) }
+    ensures ends { IfErr result (λ e. IfRan (V.owes volume.old (R.state rig.old).contents) (V.stands (V.state volume.old).told) (R.state rig.old)
+        work.old.recent (λ run. IsTallyOf run tally.now
+        → EndsFlushed P.state P.came P.broke P.knows e script.old script.new (R.state rig.old) (R.state rig.new) run)) }
     ensures goes { KeepsFrame P.state P.came P.broke P.knows script.old script.new (R.state rig.old) (R.state rig.new) }
     ensures spends { SpendsSteps (touches_each tally.now.touched.keys) (V.state volume.old) (V.state volume.new) (R.state rig.old)
         (R.state rig.new) result }

@@ -1,18 +1,17 @@
 //! The calls of a volume behind each kind of line, if writes are on the media only after a flush. After a cut the newest
 //! block writes are read back.
-ghost use Rattle.std.specs.Prelude.{◌≡◌, ◌+◌, ◌≤◌, ◌<◌, List, ℕ, ◌∷◌, [], false, length, All, IfOk, IfErr, OnOk};
-ghost use Rattle.ft_base.specs.PlainDisk.{BlockWrite, PlainDisk};
+ghost use Rattle.std.specs.Prelude.{◌≡◌, ◌+◌, ◌≤◌, ◌<◌, ◌∷◌, [], false, length, All, IfOk, IfErr, OnOk};
+ghost use Rattle.ft_base.specs.PlainDisk.{PlainDisk};
 ghost use Rattle.ft_volume.specs.Standing.{StandFor};
 ghost use Rattle.ft_volume.specs.Volume.{StaysOwner};
 ghost use Rattle.trace_model.specs.declared.line.Line.TheVariants as line_kind;
-ghost use Rattle.trace_model.specs.declared.ran.Ran.{Ran};
-ghost use Rattle.trace_model.specs.Fits.{armed_after};
 ghost use Rattle.trace_model.specs.Run.{disk_without, read_backs, stopped};
 ghost use Rattle.trace_model.specs.Text.{IsTold};
-ghost use Rattle.trace_replay.specs.Ends.{RunsLine};
+ghost use Rattle.trace_replay.specs.Ends.{RunsLine, write_of};
 ghost use Rattle.trace_replay.specs.Events.{Says};
-ghost use Rattle.trace_replay.specs.MayRun.{CanCall};
-ghost use Rattle.trace_replay.specs.Owing.{BecameOwing, GoesOwing, IsClear, Owing, OwesRun, ShowsDisk, StandForLater};
+ghost use Rattle.trace_replay.specs.Leaves.{LeavesClear, LeavesOwing};
+ghost use Rattle.trace_replay.specs.MayRun.{CanCall, CanCallClear, CanCallOwing, MayOwe};
+ghost use Rattle.trace_replay.specs.Owing.{GoesOwing, IfRan, IsClear, ShowsDisk};
 ghost use Rattle.trace_replay.specs.Spends.{SpendsSteps, puts_of, touches_of};
 ghost use Rattle.trace_replay.specs.Spends.Step.{Rests};
 ghost use Rattle.trace_replay.specs.Went.{EndsCut, Keeps, KeepsFrame, Went, cut_if};
@@ -20,7 +19,7 @@ ghost use Rattle.trace_replay.specs.Went.{EndsCut, Keeps, KeepsFrame, Went, cut_
 use crate::again::{flush_once, flush_through, idle_once, read_once};
 use crate::back::settle;
 use crate::recent::Request;
-use crate::scratch::{Scratch, Settled, Work};
+use crate::scratch::{Scratch, Settled, UNCUT, Work};
 use crate::writing::write_blocks;
 use crate::{Ended, Script};
 use ft_base::{Outcome, tag};
@@ -43,26 +42,15 @@ pub(crate) fn write_later<P: Script, R: Rig, V: Volume<R>>(
     request: Request,
     work: &mut Work,
 ) -> Result<Settled, Ended>
-    requires can { CanCall (V.owns volume.old) (R.state rig.old) }
+    requires may { CanCallOwing (V.owns volume.old) (V.owes volume.old) V.stands (V.state volume.old) (R.state rig.old) work.old.recent }
     requires request { request.lba + request.count ≤ (V.state volume.old).told.geometry.size }
-    requires owing { (most : ℕ) × (writes : List BlockWrite) × Owing (V.owes volume.old (R.state rig.old).contents)
-        (V.stands (V.state volume.old).told) (R.state rig.old).contents most writes }
-    requires recent { All (λ r. r.lba < (V.state volume.old).told.geometry.size) work.old.recent }
-    ensures owner { StaysOwner (V.owns volume.new) (R.state rig.new).contents (V.state volume.old) (V.state volume.new) }
-    ensures became { IfOk result (λ s. (run : List Ran) → OwesRun (V.owes volume.old (R.state rig.old).contents)
-        (V.stands (V.state volume.old).told) (R.state rig.old).contents work.old.recent run
-        → (R.state rig.old).power.stops ≡ armed_after run → BecameOwing (V.owes volume.new (R.state rig.new).contents)
-        (V.stands (V.state volume.new).told) (R.state rig.new).contents work.new.recent
-        (line_kind.Write request.lba request.count request.tag) s.cuts s.kept s.lost run) }
-    ensures images { (run : List Ran) → OwesRun (V.owes volume.old (R.state rig.old).contents) (V.stands (V.state volume.old).told)
-        (R.state rig.old).contents work.old.recent run
-        → StandForLater (V.stands (V.state volume.new).told) (R.state rig.new).contents work.old.recent
-        (line_kind.Write request.lba request.count request.tag) run }
+    ensures leaves { LeavesOwing (V.owns volume.new) (V.owes volume.old) (V.owes volume.new) V.stands (V.state volume.old)
+        (V.state volume.new) (R.state rig.old) (R.state rig.new)
+        work.old.recent work.new.recent (write_of request) result }
     ensures went { Went P.state P.came P.broke P.knows (λ s. s.cuts) request.count script.old script.new (R.state rig.old) (R.state rig.new) result }
-    ensures runs { IfOk result (λ s. RunsLine (line_kind.Write request.lba request.count request.tag) s.cuts (R.state rig.old) (R.state rig.new)) }
+    ensures runs { IfOk result (λ s. RunsLine (write_of request) s.cuts (R.state rig.old) (R.state rig.new)) }
     ensures spends { SpendsSteps (puts_of request.lba request.count) (V.state volume.old) (V.state volume.new) (R.state rig.old) (R.state rig.new)
         result }
-    ensures recent { OnOk result (All (λ r. r.lba < (V.state volume.old).told.geometry.size) work.new.recent) }
 {
     let cut = write_blocks(script, rig, volume, request, &mut work.scratch.block)?;
     if !cut {
@@ -92,20 +80,9 @@ pub(crate) fn flush_later<P: Script, R: Rig, V: Volume<R>>(
     volume: &mut V,
     work: &mut Work,
 ) -> Result<Settled, Ended>
-    requires can { CanCall (V.owns volume.old) (R.state rig.old) }
-    requires owing { (most : ℕ) × (writes : List BlockWrite) × Owing (V.owes volume.old (R.state rig.old).contents)
-        (V.stands (V.state volume.old).told) (R.state rig.old).contents most writes }
-    requires recent { All (λ r. r.lba < (V.state volume.old).told.geometry.size) work.old.recent }
-    ensures owner { StaysOwner (V.owns volume.new) (R.state rig.new).contents (V.state volume.old) (V.state volume.new) }
-    ensures became { IfOk result (λ s. (run : List Ran) → OwesRun (V.owes volume.old (R.state rig.old).contents)
-        (V.stands (V.state volume.old).told) (R.state rig.old).contents work.old.recent run
-        → (R.state rig.old).power.stops ≡ armed_after run → BecameOwing (V.owes volume.new (R.state rig.new).contents)
-        (V.stands (V.state volume.new).told) (R.state rig.new).contents work.new.recent
-        line_kind.Flush s.cuts s.kept s.lost run) }
-    ensures images { (run : List Ran) → OwesRun (V.owes volume.old (R.state rig.old).contents) (V.stands (V.state volume.old).told)
-        (R.state rig.old).contents work.old.recent run
-        → StandForLater (V.stands (V.state volume.new).told) (R.state rig.new).contents work.old.recent
-        line_kind.Flush run }
+    requires may { CanCallOwing (V.owns volume.old) (V.owes volume.old) V.stands (V.state volume.old) (R.state rig.old) work.old.recent }
+    ensures leaves { LeavesOwing (V.owns volume.new) (V.owes volume.old) (V.owes volume.new) V.stands (V.state volume.old)
+        (V.state volume.new) (R.state rig.old) (R.state rig.new) work.old.recent work.new.recent line_kind.Flush result }
     ensures clear { OnOk result (IsClear (V.owes volume.new (R.state rig.new).contents) (V.stands (V.state volume.new).told)
         (R.state rig.new).contents) }
     ensures kept { IfOk result (λ s. s.kept ≡ 0) }
@@ -114,16 +91,11 @@ pub(crate) fn flush_later<P: Script, R: Rig, V: Volume<R>>(
     ensures runs { IfOk result (λ s. RunsLine line_kind.Flush s.cuts (R.state rig.old) (R.state rig.new)) }
     ensures spends { SpendsSteps [] (V.state volume.old) (V.state volume.new) (R.state rig.old) (R.state rig.new)
         result }
-    ensures recent { OnOk result (All (λ r. r.lba < (V.state volume.old).told.geometry.size) work.new.recent) }
 {
     let cut = flush_once(script, rig, volume)?;
     if !cut {
         work.recent.clear();
-        return Ok(Settled {
-            cuts: 0,
-            kept: 0,
-            lost: 0,
-        });
+        return Ok(UNCUT);
     }
     // At most 16 stops are armed, so the count of cuts can't overflow:
     let _armed = rig.armed();
@@ -143,34 +115,18 @@ pub(crate) fn idle_later<P: Script, R: Rig, V: Volume<R>>(
     volume: &mut V,
     work: &mut Work,
 ) -> Result<Settled, Ended>
-    requires can { CanCall (V.owns volume.old) (R.state rig.old) }
-    requires owing { (most : ℕ) × (writes : List BlockWrite) × Owing (V.owes volume.old (R.state rig.old).contents)
-        (V.stands (V.state volume.old).told) (R.state rig.old).contents most writes }
-    requires recent { All (λ r. r.lba < (V.state volume.old).told.geometry.size) work.old.recent }
-    ensures owner { StaysOwner (V.owns volume.new) (R.state rig.new).contents (V.state volume.old) (V.state volume.new) }
-    ensures became { IfOk result (λ s. (run : List Ran) → OwesRun (V.owes volume.old (R.state rig.old).contents)
-        (V.stands (V.state volume.old).told) (R.state rig.old).contents work.old.recent run
-        → (R.state rig.old).power.stops ≡ armed_after run → BecameOwing (V.owes volume.new (R.state rig.new).contents)
-        (V.stands (V.state volume.new).told) (R.state rig.new).contents work.new.recent
-        line_kind.Idle s.cuts s.kept s.lost run) }
-    ensures images { (run : List Ran) → OwesRun (V.owes volume.old (R.state rig.old).contents) (V.stands (V.state volume.old).told)
-        (R.state rig.old).contents work.old.recent run
-        → StandForLater (V.stands (V.state volume.new).told) (R.state rig.new).contents work.old.recent
-        line_kind.Idle run }
+    requires may { CanCallOwing (V.owns volume.old) (V.owes volume.old) V.stands (V.state volume.old) (R.state rig.old) work.old.recent }
+    ensures leaves { LeavesOwing (V.owns volume.new) (V.owes volume.old) (V.owes volume.new) V.stands (V.state volume.old)
+        (V.state volume.new) (R.state rig.old) (R.state rig.new) work.old.recent work.new.recent line_kind.Idle result }
     ensures kept { IfOk result (λ s. s.kept ≡ 0) }
     ensures went { Went P.state P.came P.broke P.knows (λ s. s.cuts) 0 script.old script.new (R.state rig.old) (R.state rig.new) result }
     ensures runs { IfOk result (λ s. RunsLine line_kind.Idle s.cuts (R.state rig.old) (R.state rig.new)) }
     ensures spends { SpendsSteps (Rests ∷ []) (V.state volume.old) (V.state volume.new) (R.state rig.old) (R.state rig.new)
         result }
-    ensures recent { OnOk result (All (λ r. r.lba < (V.state volume.old).told.geometry.size) work.new.recent) }
 {
     let cuts = idle_once(script, rig, volume)?;
     if cuts == 0 {
-        return Ok(Settled {
-            cuts: 0,
-            kept: 0,
-            lost: 0,
-        });
+        return Ok(UNCUT);
     }
     // At most 16 stops are armed, so the count of cuts can't overflow:
     let _armed = rig.armed();
@@ -239,16 +195,12 @@ fn gather<P: Script, R: Rig, V: Volume<R>>(
     count: u64,
     scratch: &mut Scratch,
 ) -> Result<u64, Ended>
-    requires can { CanCall (V.owns volume.old) (R.state rig.old) }
-    requires clear { IsClear (V.owes volume.old (R.state rig.old).contents) (V.stands (V.state volume.old).told) (R.state rig.old).contents }
+    requires may { CanCallClear (V.owns volume.old) (V.owes volume.old) V.stands (V.state volume.old) (R.state rig.old) }
     requires within { lba + count ≤ (V.state volume.old).told.geometry.size }
-    ensures owner { StaysOwner (V.owns volume.new) (R.state rig.new).contents (V.state volume.old) (V.state volume.new) }
+    ensures leaves { LeavesClear (V.owns volume.new) (V.owes volume.new) V.stands (V.state volume.old) (V.state volume.new)
+        (R.state rig.old) (R.state rig.new) result }
     ensures found { OnOk result ((d : PlainDisk) → StandFor (V.stands (V.state volume.old).told) (R.state rig.old).contents d
         → scratch.new.answers.items ≡ read_backs lba count d) }
-    ensures kept { Keeps (V.stands (V.state volume.old).told) (V.stands (V.state volume.new).told) (R.state rig.old).contents
-        (R.state rig.new).contents }
-    ensures clear { OnOk result (IsClear (V.owes volume.new (R.state rig.new).contents) (V.stands (V.state volume.new).told)
-        (R.state rig.new).contents) }
     ensures went { Went P.state P.came P.broke P.knows (λ cuts. cuts) 0 script.old script.new (R.state rig.old) (R.state rig.new) result }
 {
     let mut cuts = 0;
@@ -273,40 +225,22 @@ pub(crate) fn read_later<P: Script, R: Rig, V: Volume<R>>(
     count: u64,
     work: &mut Work,
 ) -> Result<Settled, Ended>
-    requires can { CanCall (V.owns volume.old) (R.state rig.old) }
+    requires may { CanCallOwing (V.owns volume.old) (V.owes volume.old) V.stands (V.state volume.old) (R.state rig.old) work.old.recent }
     requires within { lba + count ≤ (V.state volume.old).told.geometry.size }
-    requires owing { (most : ℕ) × (writes : List BlockWrite) × Owing (V.owes volume.old (R.state rig.old).contents)
-        (V.stands (V.state volume.old).told) (R.state rig.old).contents most writes }
-    requires recent { All (λ r. r.lba < (V.state volume.old).told.geometry.size) work.old.recent }
-    ensures owner { StaysOwner (V.owns volume.new) (R.state rig.new).contents (V.state volume.old) (V.state volume.new) }
-    ensures became { IfOk result (λ s. (run : List Ran) → OwesRun (V.owes volume.old (R.state rig.old).contents)
-        (V.stands (V.state volume.old).told) (R.state rig.old).contents work.old.recent run
-        → (R.state rig.old).power.stops ≡ armed_after run → BecameOwing (V.owes volume.new (R.state rig.new).contents)
-        (V.stands (V.state volume.new).told) (R.state rig.new).contents work.new.recent
-        (line_kind.Read lba count) s.cuts s.kept s.lost run) }
-    ensures images { (run : List Ran) → OwesRun (V.owes volume.old (R.state rig.old).contents) (V.stands (V.state volume.old).told)
-        (R.state rig.old).contents work.old.recent run
-        → StandForLater (V.stands (V.state volume.new).told) (R.state rig.new).contents work.old.recent
-        (line_kind.Read lba count) run }
+    ensures leaves { LeavesOwing (V.owns volume.new) (V.owes volume.old) (V.owes volume.new) V.stands (V.state volume.old)
+        (V.state volume.new) (R.state rig.old) (R.state rig.new) work.old.recent work.new.recent (line_kind.Read lba count) result }
     ensures kept { IfOk result (λ s. s.kept ≡ 0) }
-    ensures found { IfOk result (λ s. (run : List Ran) → OwesRun (V.owes volume.old (R.state rig.old).contents)
-        (V.stands (V.state volume.old).told) (R.state rig.old).contents work.old.recent run
-        → (R.state rig.old).power.stops ≡ armed_after run
-        → work.new.scratch.answers.items ≡ read_backs lba count (disk_without s.lost run)) }
+    ensures found { IfOk result (λ s. IfRan (V.owes volume.old (R.state rig.old).contents) (V.stands (V.state volume.old).told) (R.state rig.old)
+        work.old.recent (λ run. work.new.scratch.answers.items ≡ read_backs lba count (disk_without s.lost run))) }
     ensures told { OnOk result (All IsTold work.new.scratch.answers.items) }
     ensures went { Went P.state P.came P.broke P.knows (λ s. s.cuts) 0 script.old script.new (R.state rig.old) (R.state rig.new) result }
     ensures runs { IfOk result (λ s. RunsLine (line_kind.Read lba count) s.cuts (R.state rig.old) (R.state rig.new)) }
     ensures spends { SpendsSteps (touches_of lba count) (V.state volume.old) (V.state volume.new) (R.state rig.old) (R.state rig.new)
         result }
-    ensures recent { OnOk result (All (λ r. r.lba < (V.state volume.old).told.geometry.size) work.new.recent) }
 {
     let cut = gather_once(script, rig, volume, lba, count, &mut work.scratch)?;
     if !cut {
-        return Ok(Settled {
-            cuts: 0,
-            kept: 0,
-            lost: 0,
-        });
+        return Ok(UNCUT);
     }
     // At most 16 stops are armed, so the count of cuts can't overflow:
     let _armed = rig.armed();
@@ -327,26 +261,14 @@ pub(crate) fn cut_later<P: Script, R: Rig, V: Volume<R>>(
     outcome: Outcome,
     work: &mut Work,
 ) -> Result<Settled, Ended>
-    requires owns { V.owns volume.old (R.state rig.old).contents }
-    requires owing { (most : ℕ) × (writes : List BlockWrite) × Owing (V.owes volume.old (R.state rig.old).contents)
-        (V.stands (V.state volume.old).told) (R.state rig.old).contents most writes }
-    requires recent { All (λ r. r.lba < (V.state volume.old).told.geometry.size) work.old.recent }
-    ensures owner { StaysOwner (V.owns volume.new) (R.state rig.new).contents (V.state volume.old) (V.state volume.new) }
-    ensures became { IfOk result (λ s. (run : List Ran) → OwesRun (V.owes volume.old (R.state rig.old).contents)
-        (V.stands (V.state volume.old).told) (R.state rig.old).contents work.old.recent run
-        → (R.state rig.old).power.stops ≡ armed_after run → BecameOwing (V.owes volume.new (R.state rig.new).contents)
-        (V.stands (V.state volume.new).told) (R.state rig.new).contents work.new.recent
-        (line_kind.Cut outcome) s.cuts s.kept s.lost run) }
-    ensures images { (run : List Ran) → OwesRun (V.owes volume.old (R.state rig.old).contents) (V.stands (V.state volume.old).told)
-        (R.state rig.old).contents work.old.recent run
-        → StandForLater (V.stands (V.state volume.new).told) (R.state rig.new).contents work.old.recent
-        (line_kind.Cut outcome) run }
+    requires may { MayOwe (V.owns volume.old) (V.owes volume.old) V.stands (V.state volume.old) (R.state rig.old) work.old.recent }
+    ensures leaves { LeavesOwing (V.owns volume.new) (V.owes volume.old) (V.owes volume.new) V.stands (V.state volume.old)
+        (V.state volume.new) (R.state rig.old) (R.state rig.new) work.old.recent work.new.recent (line_kind.Cut outcome) result }
     ensures kept { IfOk result (λ s. s.kept ≡ 0) }
     ensures goes { KeepsFrame P.state P.came P.broke P.knows script.old script.new (R.state rig.old) (R.state rig.new) }
     ensures said { IfOk result (λ s. Says P.came script.old script.new (stopped s.cuts)) }
     ensures runs { IfOk result (λ s. RunsLine (line_kind.Cut outcome) s.cuts (R.state rig.old) (R.state rig.new)) }
     ensures ended { IfErr result (λ e. EndsCut P.state P.came P.broke P.knows e script.old script.new (R.state rig.old) (R.state rig.new)) }
-    ensures recent { OnOk result (All (λ r. r.lba < (V.state volume.old).told.geometry.size) work.new.recent) }
 {
     volume.cut(rig, outcome);
     let back = settle(script, rig, volume, NOTHING, work)?;

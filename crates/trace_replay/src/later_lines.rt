@@ -1,26 +1,25 @@
 //! Runs each kind of line, if writes are on the media only after a flush. All calls of the volume come first. Then the
 //! script is told how many block writes are lost, and then the line's own answers.
 ghost use Rattle.std.specs.Prelude.{◌≡◌, ◌≤◌, ◌<◌, ◌++◌, ◌==◌, List, ℕ, [], length, All, if◌then◌else◌, IfOk, IfErr, OnOk};
-ghost use Rattle.ft_base.specs.PlainDisk.{BlockWrite, PlainDisk};
-ghost use Rattle.ft_volume.specs.Volume.{StaysOwner};
+ghost use Rattle.ft_base.specs.PlainDisk.{PlainDisk};
 ghost use Rattle.trace_model.specs.declared.answer.Answer.TheVariants as answer_kind;
 ghost use Rattle.trace_model.specs.declared.line.Line.TheVariants as line_kind;
 ghost use Rattle.trace_model.specs.declared.ran.Ran.{Ran};
-ghost use Rattle.trace_model.specs.Fits.{armed_after};
 ghost use Rattle.trace_model.specs.Run.{answers_of, disk_without, lost_told, own_answers, stopped};
 ghost use Rattle.trace_model.specs.SoFar.{as_ran};
 ghost use Rattle.trace_model.specs.Text.{IsTold};
 ghost use Rattle.trace_replay.specs.Ends.{RunsLine};
 ghost use Rattle.trace_replay.specs.Events.{Says};
-ghost use Rattle.trace_replay.specs.MayRun.{MayRun};
-ghost use Rattle.trace_replay.specs.Owing.{BecameOwing, EndsOwing, IsGathered, Owing, OwesRun, SpendsOwing, StandForLater};
+ghost use Rattle.trace_replay.specs.Leaves.{LeavesOwing};
+ghost use Rattle.trace_replay.specs.MayRun.{MayOwe, MayRun};
+ghost use Rattle.trace_replay.specs.Owing.{EndsOwing, IfRan, IsGathered, SpendsOwing};
 ghost use Rattle.trace_replay.specs.Saying.{GoesScript, SaysSo};
 ghost use Rattle.trace_replay.specs.Went.{KeepsFrame};
 
 use crate::later::{cut_later, flush_later, idle_later, read_later, write_later};
 use crate::recent::Request;
 use crate::saying::{say, say_all};
-use crate::scratch::{Scratch, Settled, Work};
+use crate::scratch::{Scratch, Settled, UNCUT, Work};
 use crate::{Ended, Script};
 use ft_media::{Media, Rig};
 use ft_volume::Volume;
@@ -92,31 +91,19 @@ fn call_line<P: Script, R: Rig, V: Volume<R>>(
     line: &Line,
     work: &mut Work,
 ) -> Result<Settled, Ended>
-    requires owns { V.owns volume.old (R.state rig.old).contents }
+    requires may { MayOwe (V.owns volume.old) (V.owes volume.old) V.stands (V.state volume.old) (R.state rig.old) work.old.recent }
     requires may_run { MayRun line.now (V.state volume.old).told (R.state rig.old) }
-    requires owing { (most : ℕ) × (writes : List BlockWrite) × Owing (V.owes volume.old (R.state rig.old).contents)
-        (V.stands (V.state volume.old).told) (R.state rig.old).contents most writes }
-    requires recent { All (λ r. r.lba < (V.state volume.old).told.geometry.size) work.old.recent }
-    ensures owner { StaysOwner (V.owns volume.new) (R.state rig.new).contents (V.state volume.old) (V.state volume.new) }
-    ensures became { IfOk result (λ s. (run : List Ran) → OwesRun (V.owes volume.old (R.state rig.old).contents)
-        (V.stands (V.state volume.old).told) (R.state rig.old).contents work.old.recent run
-        → (R.state rig.old).power.stops ≡ armed_after run → BecameOwing (V.owes volume.new (R.state rig.new).contents)
-        (V.stands (V.state volume.new).told) (R.state rig.new).contents work.new.recent line.now s.cuts s.kept s.lost run) }
-    ensures gathered { IfOk result (λ s. (run : List Ran) → OwesRun (V.owes volume.old (R.state rig.old).contents)
-        (V.stands (V.state volume.old).told) (R.state rig.old).contents work.old.recent run
-        → (R.state rig.old).power.stops ≡ armed_after run
-        → IsGathered line.now work.new.scratch.answers.items (disk_without s.lost run)) }
+    ensures leaves { LeavesOwing (V.owns volume.new) (V.owes volume.old) (V.owes volume.new) V.stands (V.state volume.old)
+        (V.state volume.new) (R.state rig.old) (R.state rig.new) work.old.recent work.new.recent line.now result }
+    ensures gathered { IfOk result (λ s. IfRan (V.owes volume.old (R.state rig.old).contents) (V.stands (V.state volume.old).told) (R.state rig.old)
+        work.old.recent (λ run. IsGathered line.now work.new.scratch.answers.items (disk_without s.lost run))) }
     ensures told { OnOk result ((lba count : ℕ) → line.now ≡ line_kind.Read lba count → All IsTold work.new.scratch.answers.items) }
-    ensures images { (run : List Ran) → OwesRun (V.owes volume.old (R.state rig.old).contents) (V.stands (V.state volume.old).told)
-        (R.state rig.old).contents work.old.recent run
-        → StandForLater (V.stands (V.state volume.new).told) (R.state rig.new).contents work.old.recent line.now run }
     ensures said { IfOk result (λ s. Says P.came script.old script.new (stopped s.cuts)) }
     ensures runs { IfOk result (λ s. RunsLine line.now s.cuts (R.state rig.old) (R.state rig.new)) }
     ensures ends { IfErr result (λ e. (run : List Ran)
         → EndsOwing P.state P.came P.broke P.knows e script.old script.new (R.state rig.old) (R.state rig.new) line.now run) }
     ensures goes { KeepsFrame P.state P.came P.broke P.knows script.old script.new (R.state rig.old) (R.state rig.new) }
     ensures spends { SpendsOwing line.now (V.state volume.old) (V.state volume.new) (R.state rig.old) (R.state rig.new) result }
-    ensures recent { OnOk result (All (λ r. r.lba < (V.state volume.old).told.geometry.size) work.new.recent) }
 {
     match *line {
         Line::Write { lba, count, tag } => {
@@ -128,17 +115,9 @@ fn call_line<P: Script, R: Rig, V: Volume<R>>(
         Line::Cut { outcome } => cut_later(script, rig, volume, outcome, work),
         Line::Stop { after, outcome } => {
             rig.arm(after, outcome);
-            Ok(Settled {
-                cuts: 0,
-                kept: 0,
-                lost: 0,
-            })
+            Ok(UNCUT)
         }
-        Line::Nothing => Ok(Settled {
-            cuts: 0,
-            kept: 0,
-            lost: 0,
-        }),
+        Line::Nothing => Ok(UNCUT),
     }
 }
 
@@ -150,31 +129,17 @@ pub(crate) fn run_line_later<P: Script, R: Rig, V: Volume<R>>(
     line: &Line,
     work: &mut Work,
 ) -> Result<Settled, Ended>
-    requires owns { V.owns volume.old (R.state rig.old).contents }
+    requires may { MayOwe (V.owns volume.old) (V.owes volume.old) V.stands (V.state volume.old) (R.state rig.old) work.old.recent }
     requires may_run { MayRun line.now (V.state volume.old).told (R.state rig.old) }
-    requires owing { (most : ℕ) × (writes : List BlockWrite) × Owing (V.owes volume.old (R.state rig.old).contents)
-        (V.stands (V.state volume.old).told) (R.state rig.old).contents most writes }
-    requires recent { All (λ r. r.lba < (V.state volume.old).told.geometry.size) work.old.recent }
-    ensures owner { StaysOwner (V.owns volume.new) (R.state rig.new).contents (V.state volume.old) (V.state volume.new) }
-    ensures became { IfOk result (λ s. (run : List Ran) → OwesRun (V.owes volume.old (R.state rig.old).contents)
-        (V.stands (V.state volume.old).told) (R.state rig.old).contents work.old.recent run
-        → (R.state rig.old).power.stops ≡ armed_after run → BecameOwing (V.owes volume.new (R.state rig.new).contents)
-        (V.stands (V.state volume.new).told) (R.state rig.new).contents work.new.recent line.now s.cuts s.kept s.lost run) }
-    ensures images { (run : List Ran) → OwesRun (V.owes volume.old (R.state rig.old).contents) (V.stands (V.state volume.old).told)
-        (R.state rig.old).contents work.old.recent run
-        → StandForLater (V.stands (V.state volume.new).told) (R.state rig.new).contents work.old.recent line.now run }
-    ensures said { IfOk result (λ s. (run : List Ran) → OwesRun (V.owes volume.old (R.state rig.old).contents)
-        (V.stands (V.state volume.old).told) (R.state rig.old).contents work.old.recent run
-        → (R.state rig.old).power.stops ≡ armed_after run
-        → Says P.came script.old script.new (answers_of (as_ran line.now s.cuts s.kept s.lost) (disk_without s.lost run))) }
+    ensures leaves { LeavesOwing (V.owns volume.new) (V.owes volume.old) (V.owes volume.new) V.stands (V.state volume.old)
+        (V.state volume.new) (R.state rig.old) (R.state rig.new) work.old.recent work.new.recent line.now result }
+    ensures said { IfOk result (λ s. IfRan (V.owes volume.old (R.state rig.old).contents) (V.stands (V.state volume.old).told) (R.state rig.old)
+        work.old.recent (λ run. Says P.came script.old script.new (answers_of (as_ran line.now s.cuts s.kept s.lost) (disk_without s.lost run)))) }
     ensures runs { IfOk result (λ s. RunsLine line.now s.cuts (R.state rig.old) (R.state rig.new)) }
-    ensures ends { IfErr result (λ e. (run : List Ran) → OwesRun (V.owes volume.old (R.state rig.old).contents)
-        (V.stands (V.state volume.old).told) (R.state rig.old).contents work.old.recent run
-        → (R.state rig.old).power.stops ≡ armed_after run
-        → EndsOwing P.state P.came P.broke P.knows e script.old script.new (R.state rig.old) (R.state rig.new) line.now run) }
+    ensures ends { IfErr result (λ e. IfRan (V.owes volume.old (R.state rig.old).contents) (V.stands (V.state volume.old).told) (R.state rig.old)
+        work.old.recent (λ run. EndsOwing P.state P.came P.broke P.knows e script.old script.new (R.state rig.old) (R.state rig.new) line.now run)) }
     ensures goes { KeepsFrame P.state P.came P.broke P.knows script.old script.new (R.state rig.old) (R.state rig.new) }
     ensures spends { SpendsOwing line.now (V.state volume.old) (V.state volume.new) (R.state rig.old) (R.state rig.new) result }
-    ensures recent { OnOk result (All (λ r. r.lba < (V.state volume.old).told.geometry.size) work.new.recent) }
 {
     let settled = call_line(script, rig, volume, line, work)?;
     say_line(script, line, &settled, &work.scratch)?;

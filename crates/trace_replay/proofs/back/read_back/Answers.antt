@@ -9,7 +9,7 @@ use Rattle.trace_replay.proofs.back.read_back.Goals as goal
 pub returns-in-Some-clause-found : goal.returns-in-Some-clause-found
 returns-in-Some-clause-found g c =
     IfOk-weaker c.read_recent.result _ _ (λ o. some_weaker o _ _ (λ found told d stood.
-    told d (c.kept_once.ensures.kept d stood) (found_front c.args.request.lba c.args.request.count c.args.request.tag c.in-Some.kept d ((rw c.in-Some.is at c.in_ok-front.ensures.found) d stood)))) c.read_recent.ensures.found
+    told d (c.kept_once.ensures.leaves.kept d stood) (found_front c.args.request.lba c.args.request.count c.args.request.tag c.in-Some.kept d ((rw c.in-Some.is at c.in_ok-front.ensures.found) d stood)))) c.read_recent.ensures.found
 
 pub returns-in-Some-clause-went : goal.returns-in-Some-clause-went
 returns-in-Some-clause-went g c =

@@ -12,20 +12,20 @@ use Rattle.trace_replay.proofs.back.read_recent.Goals as goal
 
 pub loop-i-init : goal.loop-i-init
 loop-i-init g c = record {
-  owns = c.requires.can.owns;
+  owns = c.requires.may.can.owns;
   told = refl;
-  clear = c.requires.clear;
+  clear = c.requires.may.clear;
   same = refl;
   found = λ d stood found. found;
   fewer = omega arith;
   low = omega arith;
   kept = λ d stood. stood;
-  went = went_none g.P.Script.state g.P.Script.came g.P.Script.broke g.P.Script.knows _ _ c.requires.can.on;
+  went = went_none g.P.Script.state g.P.Script.came g.P.Script.broke g.P.Script.knows _ _ c.requires.may.can.on;
 }
 
 pub read_once-requires-clause-within : goal.read_once-requires-clause-within
 read_once-requires-clause-within g c =
-    let all = all_at c.loop-i.invariant.told c.loop-i.invariant.same c.requires.recent in
+    let all = all_at c.loop-i.invariant.told c.loop-i.invariant.same c.requires.may.recent in
     one_within (g.V.Volume.state c.loop-i.volume).told.geometry.size c.loop-i.i c.loop-i.work.recent c.get-write.result all c.get-write.ensures
 
 pub loop-i-preserved : goal.loop-i-preserved

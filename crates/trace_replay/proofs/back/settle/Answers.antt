@@ -12,13 +12,13 @@ again-init g c =
     let few = c.armed-armed.ensures.few in
     let armed = c.armed-armed.ensures.armed in
     record {
-      owns = c.requires.can.owns;
+      owns = c.requires.may.can.owns;
       told = refl;
-      clear = c.requires.clear;
+      clear = c.requires.may.clear;
       same = refl;
-      within = c.requires.recent;
+      within = c.requires.may.recent;
       kept = λ d stood. stood;
-      went = went_none g.P.Script.state g.P.Script.came g.P.Script.broke g.P.Script.knows _ _ c.requires.can.on;
+      went = went_none g.P.Script.state g.P.Script.came g.P.Script.broke g.P.Script.knows _ _ c.requires.may.can.on;
       few = omega arith;
     }
 
@@ -26,12 +26,12 @@ pub again-preserved : goal.again-preserved
 again-preserved g c =
     let one : count_unless c.in_ok-back.back ≡ 1 = ap count_unless c.in_default.is in
     record {
-      owns = c.read_back.ensures.owner.0;
-      told = c.read_back.ensures.owner.1 ∙ c.again.invariant.told;
-      clear = c.in_ok-back.ensures.clear;
+      owns = c.read_back.ensures.leaves.owner.0;
+      told = c.read_back.ensures.leaves.owner.1 ∙ c.again.invariant.told;
+      clear = c.in_ok-back.ensures.leaves.clear;
       same = c.read_back.ensures.recent ∙ c.again.invariant.same;
-      within = all_at c.read_back.ensures.owner.1 (c.read_back.ensures.recent) c.again.invariant.within;
-      kept = λ d stood. c.read_back.ensures.kept d (c.again.invariant.kept d stood);
+      within = all_at c.read_back.ensures.leaves.owner.1 (c.read_back.ensures.recent) c.again.invariant.within;
+      kept = λ d stood. c.read_back.ensures.leaves.kept d (c.again.invariant.kept d stood);
       went = went_then g.P.Script.state g.P.Script.came g.P.Script.broke g.P.Script.knows c.again.cuts (count_unless c.in_ok-back.back) 0 0 _ 0 _ _ _ _ _ _ c.again.invariant.went c.in_ok-back.ensures.went.done (omega (arith, one)) refl;
       few = c.again.invariant.few;
     }

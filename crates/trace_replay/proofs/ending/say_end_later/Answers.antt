@@ -20,7 +20,7 @@ pub returns-in_err-settled-clause-ends : goal.returns-in_err-settled-clause-ends
 returns-in_err-settled-clause-ends g c = at_exit c.from_residual.result _ _ c.from_residual.ensures.1 (λ run o stops tally. flush_ended g.P.Script.state g.P.Script.came g.P.Script.broke g.P.Script.knows _ _ _ _ _ run c.in_err-settled.ensures.went.ended)
 
 pub returns-in_err-settled-clause-images : goal.returns-in_err-settled-clause-images
-returns-in_err-settled-clause-images g c = λ run o stops. older_since (g.V.Volume.stands (g.V.Volume.state c.flush_later.new.volume).told) _ _ _ _ o.since (c.flush_later.ensures.images run o)
+returns-in_err-settled-clause-images g c = λ run o stops. older_since (g.V.Volume.stands (g.V.Volume.state c.flush_later.new.volume).told) _ _ _ _ o.since (c.flush_later.ensures.leaves.images run o)
 
 pub returns-in_err-settled-clause-spends : goal.returns-in_err-settled-clause-spends
 returns-in_err-settled-clause-spends g c =
@@ -28,7 +28,7 @@ returns-in_err-settled-clause-spends g c =
 
 pub returns-in_err-more-clause-ends : goal.returns-in_err-more-clause-ends
 returns-in_err-more-clause-ends g c = at_exit c.from_residual-in_err-more.result _ _ c.from_residual-in_err-more.ensures.1 (λ run o stops tally.
-    let became = c.in_ok-settled.ensures.became run o stops in
+    let became = c.in_ok-settled.ensures.leaves.became run o stops in
     let lost = c.in_ok-settled.settled.lost in
     let d : PlainDisk = disk_without lost run in
     let stood = flush_stands _ (g.V.Volume.stands (g.V.Volume.state c.flush_later.new.volume).told) _ _ run became c.in_ok-settled.ensures.forgot in
@@ -37,11 +37,11 @@ returns-in_err-more-clause-ends g c = at_exit c.from_residual-in_err-more.result
 
 pub returns-in_err-more-clause-images : goal.returns-in_err-more-clause-images
 returns-in_err-more-clause-images g c = λ run o stops.
-    let became = c.in_ok-settled.ensures.became run o stops in
+    let became = c.in_ok-settled.ensures.leaves.became run o stops in
     let lost = c.in_ok-settled.settled.lost in
     let d : PlainDisk = disk_without lost run in
     let stood = flush_stands _ (g.V.Volume.stands (g.V.Volume.state c.flush_later.new.volume).told) _ _ run became c.in_ok-settled.ensures.forgot in
-    older_one (g.V.Volume.stands (g.V.Volume.state c.tell_touched.new.volume).told) (g.R.Media.state c.tell_touched.new.rig).contents _ _ (lost, became.losses.since, c.tell_touched.ensures.kept d stood)
+    older_one (g.V.Volume.stands (g.V.Volume.state c.tell_touched.new.volume).told) (g.R.Media.state c.tell_touched.new.rig).contents _ _ (lost, became.losses.since, c.tell_touched.ensures.leaves.kept d stood)
 
 pub returns-in_err-more-clause-goes : goal.returns-in_err-more-clause-goes
 returns-in_err-more-clause-goes g c = goes_then g.P.Script.state g.P.Script.came g.P.Script.broke g.P.Script.knows _ _ _ _ _ _ c.flush_later.ensures.went.goes c.tell_touched.ensures.goes
@@ -53,7 +53,7 @@ returns-in_err-more-clause-spends g c =
 
 pub returns-in_err-say_losses-clause-ends : goal.returns-in_err-say_losses-clause-ends
 returns-in_err-say_losses-clause-ends g c = at_exit c.from_residual-in_err-say_losses.result _ _ c.from_residual-in_err-say_losses.ensures.1 (λ run o stops tally.
-    let became = c.in_ok-settled.ensures.became run o stops in
+    let became = c.in_ok-settled.ensures.leaves.became run o stops in
     let lost = c.in_ok-settled.settled.lost in
     let d : PlainDisk = disk_without lost run in
     let stood = flush_stands _ (g.V.Volume.stands (g.V.Volume.state c.flush_later.new.volume).told) _ _ run became c.in_ok-settled.ensures.forgot in
@@ -64,11 +64,11 @@ returns-in_err-say_losses-clause-ends g c = at_exit c.from_residual-in_err-say_l
 
 pub returns-in_err-say_losses-clause-images : goal.returns-in_err-say_losses-clause-images
 returns-in_err-say_losses-clause-images g c = λ run o stops.
-    let became = c.in_ok-settled.ensures.became run o stops in
+    let became = c.in_ok-settled.ensures.leaves.became run o stops in
     let lost = c.in_ok-settled.settled.lost in
     let d : PlainDisk = disk_without lost run in
     let stood = flush_stands _ (g.V.Volume.stands (g.V.Volume.state c.flush_later.new.volume).told) _ _ run became c.in_ok-settled.ensures.forgot in
-    older_one (g.V.Volume.stands (g.V.Volume.state c.tell_touched.new.volume).told) (g.R.Media.state c.tell_touched.new.rig).contents _ _ (lost, became.losses.since, c.tell_touched.ensures.kept d stood)
+    older_one (g.V.Volume.stands (g.V.Volume.state c.tell_touched.new.volume).told) (g.R.Media.state c.tell_touched.new.rig).contents _ _ (lost, became.losses.since, c.tell_touched.ensures.leaves.kept d stood)
 
 pub returns-in_err-say_losses-clause-goes : goal.returns-in_err-say_losses-clause-goes
 returns-in_err-say_losses-clause-goes g c = goes_script g.P.Script.state g.P.Script.came g.P.Script.broke g.P.Script.knows _ _ _ _ _ (goes_then g.P.Script.state g.P.Script.came g.P.Script.broke g.P.Script.knows _ _ _ _ _ _ c.flush_later.ensures.went.goes c.tell_touched.ensures.goes) c.say_losses.ensures.goes
@@ -80,7 +80,7 @@ returns-in_err-say_losses-clause-spends g c =
 
 pub returns-in_err-end-clause-ends : goal.returns-in_err-end-clause-ends
 returns-in_err-end-clause-ends g c = at_exit c.from_residual-in_err-end.result _ _ c.from_residual-in_err-end.ensures.1 (λ run o stops tally.
-    let became = c.in_ok-settled.ensures.became run o stops in
+    let became = c.in_ok-settled.ensures.leaves.became run o stops in
     let lost = c.in_ok-settled.settled.lost in
     let d : PlainDisk = disk_without lost run in
     let stood = flush_stands _ (g.V.Volume.stands (g.V.Volume.state c.flush_later.new.volume).told) _ _ run became c.in_ok-settled.ensures.forgot in
@@ -93,11 +93,11 @@ returns-in_err-end-clause-ends g c = at_exit c.from_residual-in_err-end.result _
 
 pub returns-in_err-end-clause-images : goal.returns-in_err-end-clause-images
 returns-in_err-end-clause-images g c = λ run o stops.
-    let became = c.in_ok-settled.ensures.became run o stops in
+    let became = c.in_ok-settled.ensures.leaves.became run o stops in
     let lost = c.in_ok-settled.settled.lost in
     let d : PlainDisk = disk_without lost run in
     let stood = flush_stands _ (g.V.Volume.stands (g.V.Volume.state c.flush_later.new.volume).told) _ _ run became c.in_ok-settled.ensures.forgot in
-    older_one (g.V.Volume.stands (g.V.Volume.state c.tell_touched.new.volume).told) (g.R.Media.state c.tell_touched.new.rig).contents _ _ (lost, became.losses.since, c.tell_touched.ensures.kept d stood)
+    older_one (g.V.Volume.stands (g.V.Volume.state c.tell_touched.new.volume).told) (g.R.Media.state c.tell_touched.new.rig).contents _ _ (lost, became.losses.since, c.tell_touched.ensures.leaves.kept d stood)
 
 pub returns-in_err-end-clause-goes : goal.returns-in_err-end-clause-goes
 returns-in_err-end-clause-goes g c = goes_script g.P.Script.state g.P.Script.came g.P.Script.broke g.P.Script.knows _ _ _ _ _ (goes_script g.P.Script.state g.P.Script.came g.P.Script.broke g.P.Script.knows _ _ _ _ _ (goes_then g.P.Script.state g.P.Script.came g.P.Script.broke g.P.Script.knows _ _ _ _ _ _ c.flush_later.ensures.went.goes c.tell_touched.ensures.goes) c.say_losses.ensures.goes)
@@ -110,7 +110,7 @@ returns-in_err-end-clause-spends g c =
 
 pub returns-clause-flushed : goal.returns-clause-flushed
 returns-clause-flushed g c = λ run o stops tally.
-    let became = c.in_ok-settled.ensures.became run o stops in
+    let became = c.in_ok-settled.ensures.leaves.became run o stops in
     let lost = c.in_ok-settled.settled.lost in
     let d : PlainDisk = disk_without lost run in
     let stood = flush_stands _ (g.V.Volume.stands (g.V.Volume.state c.flush_later.new.volume).told) _ _ run became c.in_ok-settled.ensures.forgot in
@@ -123,7 +123,7 @@ returns-clause-flushed g c = λ run o stops tally.
           (append_assoc (stopped (c.in_ok-settled.settled.cuts + c.in_ok-more.more)) (lost_told lost) _ ∙ ap (λ (k : Answer). stopped (c.in_ok-settled.settled.cuts + c.in_ok-more.more) ++ (lost_told lost ++ k ∷ [])) (end_tally run c.args.tally.now lost tally)) said);
       cut = λ none. became.cut refl (omega (arith, none));
       losses = became.losses;
-      disk = c.tell_touched.ensures.kept d stood;
+      disk = c.tell_touched.ensures.leaves.kept d stood;
     }
 
 pub returns-clause-cuts : goal.returns-clause-cuts
@@ -131,11 +131,11 @@ returns-clause-cuts g c = cuts_then c.in_ok-settled.settled.cuts c.in_ok-more.mo
 
 pub returns-clause-images : goal.returns-clause-images
 returns-clause-images g c = λ run o stops.
-    let became = c.in_ok-settled.ensures.became run o stops in
+    let became = c.in_ok-settled.ensures.leaves.became run o stops in
     let lost = c.in_ok-settled.settled.lost in
     let d : PlainDisk = disk_without lost run in
     let stood = flush_stands _ (g.V.Volume.stands (g.V.Volume.state c.flush_later.new.volume).told) _ _ run became c.in_ok-settled.ensures.forgot in
-    older_one (g.V.Volume.stands (g.V.Volume.state c.tell_touched.new.volume).told) (g.R.Media.state c.tell_touched.new.rig).contents _ _ (lost, became.losses.since, c.tell_touched.ensures.kept d stood)
+    older_one (g.V.Volume.stands (g.V.Volume.state c.tell_touched.new.volume).told) (g.R.Media.state c.tell_touched.new.rig).contents _ _ (lost, became.losses.since, c.tell_touched.ensures.leaves.kept d stood)
 
 pub returns-clause-goes : goal.returns-clause-goes
 returns-clause-goes g c = goes_script g.P.Script.state g.P.Script.came g.P.Script.broke g.P.Script.knows _ _ _ _ _ (goes_script g.P.Script.state g.P.Script.came g.P.Script.broke g.P.Script.knows _ _ _ _ _ (goes_then g.P.Script.state g.P.Script.came g.P.Script.broke g.P.Script.knows _ _ _ _ _ _ c.flush_later.ensures.went.goes c.tell_touched.ensures.goes) c.say_losses.ensures.goes)

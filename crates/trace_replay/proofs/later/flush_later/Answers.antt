@@ -1,25 +1,28 @@
-use Rattle.std.proofs.Common.{◌≡◌, ◌+◌, [], ap, refl, subst, arith, drop}
+use Rattle.std.proofs.Common.{◌≡◌, ◌+◌, [], ap, refl, subst, arith, drop, ◌∙◌}
 use Rattle.trace_model.specs.declared.line.Line.TheVariants as line
 use Rattle.trace_replay.specs.Went.{cut_if}
 use Rattle.trace_model.specs.Run.{disk_written, writes_after}
 use Rattle.trace_replay.specs.Went.{GoesCut}
-use Rattle.trace_replay.proofs.LaterLemmas.{line_cut, line_flushed}
+use Rattle.trace_replay.proofs.LaterLemmas.{all_none, line_cut, line_flushed}
+use Rattle.trace_replay.proofs.LeavesLemmas.{owing_exit}
 use Rattle.trace_replay.proofs.OwingLemmas.{all_at, clear_owing, older_one}
 use Rattle.trace_replay.proofs.SpendsLemmas.{never_cut, spends_ends}
 use Rattle.trace_replay.proofs.WentLemmas.{ends_after, goes_then, went_ends, went_then}
 use Rattle.trace_replay.proofs.later.flush_later.Goals as goal
 
-pub settle-requires-clause-clear : goal.settle-requires-clause-clear
-settle-requires-clause-clear g c =
-    let one : cut_if c.in_ok-cut.cut ≡ 1 = ap cut_if c.if-not-cut.false in
-    let owing = c.in_ok-cut.ensures.owing in
-    record { nothing_owed = owing.nothing (omega (arith, one)); disk = _; media = (owing.cut (omega (arith, one)) c.requires.owing.0 c.requires.owing.1 c.requires.owing.2).2 }
+pub settle-requires-clause-may : goal.settle-requires-clause-may
+settle-requires-clause-may g c = record {
+  can = record { owns = c.flush_once.ensures.owner.0; on = c.flush_once.ensures.went.goes.on };
+  clear = let one : cut_if c.in_ok-cut.cut ≡ 1 = ap cut_if c.if-not-cut.false in
+      let owing = c.in_ok-cut.ensures.owing in
+      record { nothing_owed = owing.nothing (omega (arith, one)); disk = _; media = (owing.cut (omega (arith, one)) c.requires.may.owing.0 c.requires.may.owing.1 c.requires.may.owing.2).2 };
+  recent = all_at c.flush_once.ensures.owner.1 refl c.requires.may.recent;
+}
 
-pub settle-requires-clause-recent : goal.settle-requires-clause-recent
-settle-requires-clause-recent g c = all_at c.flush_once.ensures.owner.1 refl c.requires.recent
-
-pub returns-in_err-cut-clause-images : goal.returns-in_err-cut-clause-images
-returns-in_err-cut-clause-images g c = λ run o. c.flush_once.ensures.owing.images _ _ o.owing
+pub returns-in_err-cut-clause-leaves : goal.returns-in_err-cut-clause-leaves
+returns-in_err-cut-clause-leaves g c =
+    owing_exit _ _ _ _ _ _ _ _ _ _ _ c.from_residual.result _ c.from_residual.ensures.1 c.flush_once.ensures.owner
+    (λ run o. c.flush_once.ensures.owing.images _ _ o.owing)
 
 pub returns-in_err-cut-clause-went : goal.returns-in_err-cut-clause-went
 returns-in_err-cut-clause-went g c =
@@ -28,24 +31,28 @@ returns-in_err-cut-clause-went g c =
 pub returns-in_err-cut-clause-spends : goal.returns-in_err-cut-clause-spends
 returns-in_err-cut-clause-spends g c = spends_ends [] _ _ _ _ c.from_residual.result _ c.from_residual.ensures.1 (λ quiet. c.in_err-cut.ensures.spends.ended quiet)
 
-pub returns-then-not-cut-clause-became : goal.returns-then-not-cut-clause-became
-returns-then-not-cut-clause-became g c = λ run o stops.
-    let none : cut_if c.in_ok-cut.cut ≡ 0 = ap cut_if c.if-not-cut.true in
-    line_flushed (g.V.Volume.owes c.flush_once.new.volume (g.R.Media.state c.flush_once.new.rig).contents) (g.V.Volume.stands (g.V.Volume.state c.flush_once.new.volume).told) (g.R.Media.state c.flush_once.new.rig).contents run _ c.clear.ensures (c.in_ok-cut.ensures.flushed c.if-not-cut.true _ _ o.owing)
-
-pub returns-then-not-cut-clause-images : goal.returns-then-not-cut-clause-images
-returns-then-not-cut-clause-images g c = λ run o. c.flush_once.ensures.owing.images _ _ o.owing
+pub returns-then-not-cut-clause-leaves : goal.returns-then-not-cut-clause-leaves
+returns-then-not-cut-clause-leaves g c = record {
+  owner = c.flush_once.ensures.owner;
+  became = λ run o stops.
+      let none : cut_if c.in_ok-cut.cut ≡ 0 = ap cut_if c.if-not-cut.true in
+      line_flushed (g.V.Volume.owes c.flush_once.new.volume (g.R.Media.state c.flush_once.new.rig).contents) (g.V.Volume.stands (g.V.Volume.state c.flush_once.new.volume).told) (g.R.Media.state c.flush_once.new.rig).contents run _ c.clear.ensures (c.in_ok-cut.ensures.flushed c.if-not-cut.true _ _ o.owing);
+  images = λ run o. c.flush_once.ensures.owing.images _ _ o.owing;
+  recent = all_none (g.V.Volume.state c.args.volume.now).told.geometry.size _ c.clear.ensures;
+}
 
 pub returns-then-not-cut-clause-went : goal.returns-then-not-cut-clause-went
 returns-then-not-cut-clause-went g c =
     let none : cut_if c.in_ok-cut.cut ≡ 0 = ap cut_if c.if-not-cut.true in
     record { goes = c.flush_once.ensures.went.goes; done = subst (λ n. GoesCut g.P.Script.state g.P.Script.came g.P.Script.broke g.P.Script.knows n 0 c.args.script.now c.flush_once.new.script (g.R.Media.state c.args.rig.now) (g.R.Media.state c.flush_once.new.rig)) none c.in_ok-cut.ensures.went.done; ended = tt }
 
-pub returns-in_err-back-clause-images : goal.returns-in_err-back-clause-images
-returns-in_err-back-clause-images g c = λ run o.
+pub returns-in_err-back-clause-leaves : goal.returns-in_err-back-clause-leaves
+returns-in_err-back-clause-leaves g c =
+    owing_exit _ _ _ _ _ _ _ _ _ _ _ c.from_residual-in_err-back.result _ c.from_residual-in_err-back.ensures.1 (c.settle.ensures.leaves.owner.0, c.settle.ensures.leaves.owner.1 ∙ c.flush_once.ensures.owner.1)
+    (λ run o.
     let one : cut_if c.in_ok-cut.cut ≡ 1 = ap cut_if c.if-not-cut.false in
     let cut = c.in_ok-cut.ensures.owing.cut (omega (arith, one)) _ _ o.owing in
-    older_one (g.V.Volume.stands (g.V.Volume.state c.settle.new.volume).told) (g.R.Media.state c.settle.new.rig).contents _ _ (cut.0, cut.1, c.settle.ensures.kept _ cut.2)
+    older_one (g.V.Volume.stands (g.V.Volume.state c.settle.new.volume).told) (g.R.Media.state c.settle.new.rig).contents _ _ (cut.0, cut.1, c.settle.ensures.leaves.kept _ cut.2))
 
 pub returns-in_err-back-clause-went : goal.returns-in_err-back-clause-went
 returns-in_err-back-clause-went g c =
@@ -59,11 +66,13 @@ returns-in_err-back-clause-spends g c =
     spends_ends [] _ _ _ _ c.from_residual-in_err-back.result _ c.from_residual-in_err-back.ensures.1
     (λ quiet. absurd (never_cut (cut_if c.in_ok-cut.cut) _ _ c.in_ok-cut.ensures.went.done.cut.few (omega (arith, one)) quiet))
 
-pub returns-in_err-more-clause-images : goal.returns-in_err-more-clause-images
-returns-in_err-more-clause-images g c = λ run o.
+pub returns-in_err-more-clause-leaves : goal.returns-in_err-more-clause-leaves
+returns-in_err-more-clause-leaves g c =
+    owing_exit _ _ _ _ _ _ _ _ _ _ _ c.from_residual-in_err-more.result _ c.from_residual-in_err-more.ensures.1 (c.flush_through.ensures.leaves.owner.0, c.flush_through.ensures.leaves.owner.1 ∙ c.settle.ensures.leaves.owner.1 ∙ c.flush_once.ensures.owner.1)
+    (λ run o.
     let one : cut_if c.in_ok-cut.cut ≡ 1 = ap cut_if c.if-not-cut.false in
     let cut = c.in_ok-cut.ensures.owing.cut (omega (arith, one)) _ _ o.owing in
-    older_one (g.V.Volume.stands (g.V.Volume.state c.flush_through.new.volume).told) (g.R.Media.state c.flush_through.new.rig).contents _ _ (cut.0, cut.1, c.flush_through.ensures.kept _ (c.settle.ensures.kept _ cut.2))
+    older_one (g.V.Volume.stands (g.V.Volume.state c.flush_through.new.volume).told) (g.R.Media.state c.flush_through.new.rig).contents _ _ (cut.0, cut.1, c.flush_through.ensures.leaves.kept _ (c.settle.ensures.leaves.kept _ cut.2)))
 
 pub returns-in_err-more-clause-went : goal.returns-in_err-more-clause-went
 returns-in_err-more-clause-went g c =
@@ -79,20 +88,22 @@ returns-in_err-more-clause-spends g c =
     spends_ends [] _ _ _ _ c.from_residual-in_err-more.result _ c.from_residual-in_err-more.ensures.1
     (λ quiet. absurd (never_cut (cut_if c.in_ok-cut.cut) _ _ c.in_ok-cut.ensures.went.done.cut.few (omega (arith, one)) quiet))
 
-pub returns-clause-became : goal.returns-clause-became
-returns-clause-became g c = λ run o stops.
-    let one : cut_if c.in_ok-cut.cut ≡ 1 = ap cut_if c.if-not-cut.false in
-    let cut = c.in_ok-cut.ensures.owing.cut (omega (arith, one)) _ _ o.owing in
-    let within = cut.1 in
-    line_cut (g.V.Volume.owes c.flush_through.new.volume (g.R.Media.state c.flush_through.new.rig).contents) (g.V.Volume.stands (g.V.Volume.state c.flush_through.new.volume).told) (g.R.Media.state c.flush_through.new.rig).contents run c.args.work.now.recent o.older o.all o.few o.since cut.0 (c.in_ok-back.back.cuts + 1 + c.in_ok-more.more) c.in_ok-back.back.kept c.in_ok-back.back.lost
-    (disk_written (drop cut.0 (writes_after run))) c.in_ok-more.ensures.clear.nothing_owed (c.flush_through.ensures.kept _ (c.settle.ensures.kept _ cut.2)) _ c.in_ok-back.ensures.forgot line.Flush
-    (λ k ws. refl) tt (λ _ none. absurd (omega (arith, one, none))) (omega (arith, within)) refl (c.in_ok-back.ensures.found _ cut.2)
-
-pub returns-clause-images : goal.returns-clause-images
-returns-clause-images g c = λ run o.
-    let one : cut_if c.in_ok-cut.cut ≡ 1 = ap cut_if c.if-not-cut.false in
-    let cut = c.in_ok-cut.ensures.owing.cut (omega (arith, one)) _ _ o.owing in
-    older_one (g.V.Volume.stands (g.V.Volume.state c.flush_through.new.volume).told) (g.R.Media.state c.flush_through.new.rig).contents _ _ (cut.0, cut.1, (c.flush_through.ensures.kept _ (c.settle.ensures.kept _ cut.2)))
+pub returns-clause-leaves : goal.returns-clause-leaves
+returns-clause-leaves g c = record {
+  owner = (c.flush_through.ensures.leaves.owner.0, c.flush_through.ensures.leaves.owner.1 ∙ c.settle.ensures.leaves.owner.1 ∙ c.flush_once.ensures.owner.1);
+  became = λ run o stops.
+      let one : cut_if c.in_ok-cut.cut ≡ 1 = ap cut_if c.if-not-cut.false in
+      let cut = c.in_ok-cut.ensures.owing.cut (omega (arith, one)) _ _ o.owing in
+      let within = cut.1 in
+      line_cut (g.V.Volume.owes c.flush_through.new.volume (g.R.Media.state c.flush_through.new.rig).contents) (g.V.Volume.stands (g.V.Volume.state c.flush_through.new.volume).told) (g.R.Media.state c.flush_through.new.rig).contents run c.args.work.now.recent o.older o.all o.few o.since cut.0 (c.in_ok-back.back.cuts + 1 + c.in_ok-more.more) c.in_ok-back.back.kept c.in_ok-back.back.lost
+      (disk_written (drop cut.0 (writes_after run))) c.in_ok-more.ensures.leaves.clear.nothing_owed (c.flush_through.ensures.leaves.kept _ (c.settle.ensures.leaves.kept _ cut.2)) _ c.in_ok-back.ensures.forgot line.Flush
+      (λ k ws. refl) tt (λ _ none. absurd (omega (arith, one, none))) (omega (arith, within)) refl (c.in_ok-back.ensures.found _ cut.2);
+  images = λ run o.
+      let one : cut_if c.in_ok-cut.cut ≡ 1 = ap cut_if c.if-not-cut.false in
+      let cut = c.in_ok-cut.ensures.owing.cut (omega (arith, one)) _ _ o.owing in
+      older_one (g.V.Volume.stands (g.V.Volume.state c.flush_through.new.volume).told) (g.R.Media.state c.flush_through.new.rig).contents _ _ (cut.0, cut.1, (c.flush_through.ensures.leaves.kept _ (c.settle.ensures.leaves.kept _ cut.2)));
+  recent = all_none (g.V.Volume.state c.args.volume.now).told.geometry.size _ c.in_ok-back.ensures.forgot;
+}
 
 pub returns-clause-went : goal.returns-clause-went
 returns-clause-went g c =
@@ -108,5 +119,5 @@ returns-clause-spends g c =
 
 pub returns-then-not-cut-clause-clear : goal.returns-then-not-cut-clause-clear
 returns-then-not-cut-clause-clear g c =
-    let clear = clear_owing (g.V.Volume.owes c.flush_once.new.volume (g.R.Media.state c.flush_once.new.rig).contents) (g.V.Volume.stands (g.V.Volume.state c.flush_once.new.volume).told) (g.R.Media.state c.flush_once.new.rig).contents c.requires.owing.1 (c.in_ok-cut.ensures.flushed c.if-not-cut.true _ _ c.requires.owing.2) in
+    let clear = clear_owing (g.V.Volume.owes c.flush_once.new.volume (g.R.Media.state c.flush_once.new.rig).contents) (g.V.Volume.stands (g.V.Volume.state c.flush_once.new.volume).told) (g.R.Media.state c.flush_once.new.rig).contents c.requires.may.owing.1 (c.in_ok-cut.ensures.flushed c.if-not-cut.true _ _ c.requires.may.owing.2) in
     record { nothing_owed = clear.0; disk = _; media = clear.1 }

@@ -9,11 +9,11 @@ again-init g c =
     let few = c.armed-armed.ensures.few in
     let armed = c.armed-armed.ensures.armed in
     record {
-      owns = c.requires.can.owns;
+      owns = c.requires.may.can.owns;
       told = refl;
-      clear = c.requires.clear;
+      clear = c.requires.may.clear;
       kept = λ d stood. stood;
-      went = went_none g.P.Script.state g.P.Script.came g.P.Script.broke g.P.Script.knows _ _ c.requires.can.on;
+      went = went_none g.P.Script.state g.P.Script.came g.P.Script.broke g.P.Script.knows _ _ c.requires.may.can.on;
       few = omega arith;
     }
 

@@ -1,26 +1,24 @@
-use Rattle.std.proofs.Common.{refl, ap, sym, subst}
+use Rattle.std.proofs.Common.{refl, ap, sym, subst, arith}
 use Rattle.std.proofs.lemmas.Result.{IfErr-weaker, IfOk-weaker, on_ok_weaker}
 use Rattle.trace_model.specs.declared.line.Line.TheVariants as line
 use Rattle.trace_model.specs.Run.{disk_without}
 use Rattle.trace_replay.proofs.OwingEndLemmas.{cut_spends, on_ok_any, owing_spends, owing_within, owing_write}
 use Rattle.ft_base.specs.Contents.{Contents}
 use Rattle.ft_media.specs.State.{State}
-use Rattle.trace_replay.specs.Owing.{StandForLater}
+use Rattle.trace_replay.specs.Owing.{BecameOwing, StandForLater}
+use Rattle.trace_replay.proofs.LaterLemmas.{line_became}
 use Rattle.trace_replay.proofs.OwingLemmas.{older_owing, owing_plus}
 use Rattle.trace_replay.proofs.WithinLemmas.{read_backs_some}
 use Rattle.trace_replay.proofs.later_lines.call_line.Goals as goal
 
-pub returns-in-Write-clause-became : goal.returns-in-Write-clause-became
-returns-in-Write-clause-became g c = rw c.in-Write.is c.write_later.ensures.became
-
-pub returns-in-Write-clause-images : goal.returns-in-Write-clause-images
-returns-in-Write-clause-images g c = rw c.in-Write.is c.write_later.ensures.images
+pub returns-in-Write-clause-leaves : goal.returns-in-Write-clause-leaves
+returns-in-Write-clause-leaves g c = rw c.in-Write.is c.write_later.ensures.leaves
 
 pub returns-in-Write-clause-runs : goal.returns-in-Write-clause-runs
 returns-in-Write-clause-runs g c = rw c.in-Write.is c.write_later.ensures.runs
 
 pub returns-in-Write-clause-gathered : goal.returns-in-Write-clause-gathered
-returns-in-Write-clause-gathered g c = rw c.in-Write.is (IfOk-weaker c.write_later.result _ _ (λ s _ run o stops. tt) c.write_later.ensures.became)
+returns-in-Write-clause-gathered g c = rw c.in-Write.is (IfOk-weaker c.write_later.result _ _ (λ s _ run o stops. tt) c.write_later.ensures.leaves.became)
 
 pub returns-in-Write-clause-said : goal.returns-in-Write-clause-said
 returns-in-Write-clause-said g c = IfOk-weaker c.write_later.result _ _ (λ s went. went.said) c.write_later.ensures.went.done
@@ -34,11 +32,8 @@ returns-in-Write-clause-ends g c = rw c.in-Write.is (IfErr-weaker c.write_later.
 pub returns-in-Write-clause-told : goal.returns-in-Write-clause-told
 returns-in-Write-clause-told g c = on_ok_any c.write_later.result _ (λ lba count is. absurd (let here = c.in-Write.is in cc))
 
-pub returns-in-Read-clause-became : goal.returns-in-Read-clause-became
-returns-in-Read-clause-became g c = rw c.in-Read.is c.read_later.ensures.became
-
-pub returns-in-Read-clause-images : goal.returns-in-Read-clause-images
-returns-in-Read-clause-images g c = rw c.in-Read.is c.read_later.ensures.images
+pub returns-in-Read-clause-leaves : goal.returns-in-Read-clause-leaves
+returns-in-Read-clause-leaves g c = rw c.in-Read.is c.read_later.ensures.leaves
 
 pub returns-in-Read-clause-runs : goal.returns-in-Read-clause-runs
 returns-in-Read-clause-runs g c = rw c.in-Read.is c.read_later.ensures.runs
@@ -58,17 +53,14 @@ returns-in-Read-clause-ends g c = let some = (rw c.in-Read.is at c.requires.may_
 pub returns-in-Read-clause-told : goal.returns-in-Read-clause-told
 returns-in-Read-clause-told g c = on_ok_weaker c.read_later.result (λ told lba count is. told) c.read_later.ensures.told
 
-pub returns-in-Flush-clause-became : goal.returns-in-Flush-clause-became
-returns-in-Flush-clause-became g c = rw c.in-Flush.is c.flush_later.ensures.became
-
-pub returns-in-Flush-clause-images : goal.returns-in-Flush-clause-images
-returns-in-Flush-clause-images g c = rw c.in-Flush.is c.flush_later.ensures.images
+pub returns-in-Flush-clause-leaves : goal.returns-in-Flush-clause-leaves
+returns-in-Flush-clause-leaves g c = rw c.in-Flush.is c.flush_later.ensures.leaves
 
 pub returns-in-Flush-clause-runs : goal.returns-in-Flush-clause-runs
 returns-in-Flush-clause-runs g c = rw c.in-Flush.is c.flush_later.ensures.runs
 
 pub returns-in-Flush-clause-gathered : goal.returns-in-Flush-clause-gathered
-returns-in-Flush-clause-gathered g c = rw c.in-Flush.is (IfOk-weaker c.flush_later.result _ _ (λ s _ run o stops. tt) c.flush_later.ensures.became)
+returns-in-Flush-clause-gathered g c = rw c.in-Flush.is (IfOk-weaker c.flush_later.result _ _ (λ s _ run o stops. tt) c.flush_later.ensures.leaves.became)
 
 pub returns-in-Flush-clause-said : goal.returns-in-Flush-clause-said
 returns-in-Flush-clause-said g c = IfOk-weaker c.flush_later.result _ _ (λ s went. went.said) c.flush_later.ensures.went.done
@@ -82,17 +74,14 @@ returns-in-Flush-clause-ends g c = rw c.in-Flush.is (IfErr-weaker c.flush_later.
 pub returns-in-Flush-clause-told : goal.returns-in-Flush-clause-told
 returns-in-Flush-clause-told g c = on_ok_any c.flush_later.result _ (λ lba count is. absurd (let here = c.in-Flush.is in cc))
 
-pub returns-in-Idle-clause-became : goal.returns-in-Idle-clause-became
-returns-in-Idle-clause-became g c = rw c.in-Idle.is c.idle_later.ensures.became
-
-pub returns-in-Idle-clause-images : goal.returns-in-Idle-clause-images
-returns-in-Idle-clause-images g c = rw c.in-Idle.is c.idle_later.ensures.images
+pub returns-in-Idle-clause-leaves : goal.returns-in-Idle-clause-leaves
+returns-in-Idle-clause-leaves g c = rw c.in-Idle.is c.idle_later.ensures.leaves
 
 pub returns-in-Idle-clause-runs : goal.returns-in-Idle-clause-runs
 returns-in-Idle-clause-runs g c = rw c.in-Idle.is c.idle_later.ensures.runs
 
 pub returns-in-Idle-clause-gathered : goal.returns-in-Idle-clause-gathered
-returns-in-Idle-clause-gathered g c = rw c.in-Idle.is (IfOk-weaker c.idle_later.result _ _ (λ s _ run o stops. tt) c.idle_later.ensures.became)
+returns-in-Idle-clause-gathered g c = rw c.in-Idle.is (IfOk-weaker c.idle_later.result _ _ (λ s _ run o stops. tt) c.idle_later.ensures.leaves.became)
 
 pub returns-in-Idle-clause-said : goal.returns-in-Idle-clause-said
 returns-in-Idle-clause-said g c = IfOk-weaker c.idle_later.result _ _ (λ s went. went.said) c.idle_later.ensures.went.done
@@ -106,17 +95,14 @@ returns-in-Idle-clause-ends g c = rw c.in-Idle.is (IfErr-weaker c.idle_later.res
 pub returns-in-Idle-clause-told : goal.returns-in-Idle-clause-told
 returns-in-Idle-clause-told g c = on_ok_any c.idle_later.result _ (λ lba count is. absurd (let here = c.in-Idle.is in cc))
 
-pub returns-in-Cut-clause-became : goal.returns-in-Cut-clause-became
-returns-in-Cut-clause-became g c = rw c.in-Cut.is c.cut_later.ensures.became
-
-pub returns-in-Cut-clause-images : goal.returns-in-Cut-clause-images
-returns-in-Cut-clause-images g c = rw c.in-Cut.is c.cut_later.ensures.images
+pub returns-in-Cut-clause-leaves : goal.returns-in-Cut-clause-leaves
+returns-in-Cut-clause-leaves g c = rw c.in-Cut.is c.cut_later.ensures.leaves
 
 pub returns-in-Cut-clause-runs : goal.returns-in-Cut-clause-runs
 returns-in-Cut-clause-runs g c = rw c.in-Cut.is c.cut_later.ensures.runs
 
 pub returns-in-Cut-clause-gathered : goal.returns-in-Cut-clause-gathered
-returns-in-Cut-clause-gathered g c = rw c.in-Cut.is (IfOk-weaker c.cut_later.result _ _ (λ s _ run o stops. tt) c.cut_later.ensures.became)
+returns-in-Cut-clause-gathered g c = rw c.in-Cut.is (IfOk-weaker c.cut_later.result _ _ (λ s _ run o stops. tt) c.cut_later.ensures.leaves.became)
 
 pub returns-in-Cut-clause-spends : goal.returns-in-Cut-clause-spends
 returns-in-Cut-clause-spends g c = rw c.in-Cut.is (cut_spends c.in-Cut.outcome _ _ _ _ c.cut_later.result)
@@ -127,9 +113,31 @@ returns-in-Cut-clause-ends g c = rw c.in-Cut.is (IfErr-weaker c.cut_later.result
 pub returns-in-Cut-clause-told : goal.returns-in-Cut-clause-told
 returns-in-Cut-clause-told g c = on_ok_any c.cut_later.result _ (λ lba count is. absurd (let here = c.in-Cut.is in cc))
 
-pub returns-in-Stop-clause-images : goal.returns-in-Stop-clause-images
-returns-in-Stop-clause-images g c = rw c.in-Stop.is (λ run o. subst (λ (k : Contents). StandForLater (g.V.Volume.stands (g.V.Volume.state c.args.volume.now).told) k c.args.work.now.recent (line.Stop c.in-Stop.after c.in-Stop.outcome) run) (sym (ap (λ (s : State). s.contents) c.arm.ensures.same))
-    (older_owing _ (g.V.Volume.stands (g.V.Volume.state c.args.volume.now).told) _ _ _ (owing_plus _ _ _ _ _ o.owing)))
+pub returns-in-Stop-clause-leaves : goal.returns-in-Stop-clause-leaves
+returns-in-Stop-clause-leaves g c =
+    let owes = g.V.Volume.owes c.args.volume.now in
+    let stands = g.V.Volume.stands (g.V.Volume.state c.args.volume.now).told in
+    let old = (g.R.Media.state c.args.rig.now).contents in
+    let recent = c.args.work.now.recent in
+    let stop = line.Stop c.in-Stop.after c.in-Stop.outcome in
+    let same = sym (ap (λ (s : State). s.contents) c.arm.ensures.same) in
+    rw c.in-Stop.is (record {
+      owner = (subst (λ (k : Contents). g.V.Volume.owns c.args.volume.now k) same c.requires.may.owns, refl);
+      became = λ run o stops. subst (λ (k : Contents). BecameOwing (owes k) stands k recent stop 0 0 0 run) same
+          (line_became (owes old) stands old run recent o.older o.all o.few o.since stop recent refl (λ k ws. refl) (omega arith) refl o.owing);
+      images = λ run o. subst (λ (k : Contents). StandForLater stands k recent stop run) same (older_owing _ stands _ _ _ (owing_plus _ _ _ _ _ o.owing));
+      recent = c.requires.may.recent;
+    })
 
-pub returns-in-Nothing-clause-images : goal.returns-in-Nothing-clause-images
-returns-in-Nothing-clause-images g c = rw c.in-Nothing.is (λ run o. older_owing _ (g.V.Volume.stands (g.V.Volume.state c.args.volume.now).told) _ _ _ (owing_plus _ _ _ _ _ o.owing))
+pub returns-in-Nothing-clause-leaves : goal.returns-in-Nothing-clause-leaves
+returns-in-Nothing-clause-leaves g c =
+    let owes = g.V.Volume.owes c.args.volume.now in
+    let stands = g.V.Volume.stands (g.V.Volume.state c.args.volume.now).told in
+    let old = (g.R.Media.state c.args.rig.now).contents in
+    let recent = c.args.work.now.recent in
+    rw c.in-Nothing.is (record {
+      owner = (c.requires.may.owns, refl);
+      became = λ run o stops. line_became (owes old) stands old run recent o.older o.all o.few o.since line.Nothing recent refl (λ k ws. refl) (omega arith) refl o.owing;
+      images = λ run o. older_owing _ stands _ _ _ (owing_plus _ _ _ _ _ o.owing);
+      recent = c.requires.may.recent;
+    })

@@ -3,8 +3,12 @@ use Rattle.trace_replay.proofs.FromLemmas.{ends_exit}
 use Rattle.trace_replay.proofs.TheoremLemmas.{ends_flushed, ends_unflushed, run_part}
 use Rattle.trace_replay.proofs.running.run_end_later.Goals as goal
 
-pub say_end_later-requires-clause-owing : goal.say_end_later-requires-clause-owing
-say_end_later-requires-clause-owing g c = (_, _, c.requires.so_far.2.owed.owing)
+pub say_end_later-requires-clause-may : goal.say_end_later-requires-clause-may
+say_end_later-requires-clause-may g c = record {
+  can = c.requires.may.can;
+  owing = (_, _, c.requires.may.so_far.2.owed.owing);
+  recent = c.requires.may.recent;
+}
 
 pub returns-in_err-_settled-clause-ends : goal.returns-in_err-_settled-clause-ends
 returns-in_err-_settled-clause-ends g c = λ first run so_far s b come known.
@@ -18,8 +22,8 @@ returns-in_err-_settled-clause-ends g c = λ first run so_far s b come known.
 
 pub returns-in_err-_settled-clause-causes : goal.returns-in_err-_settled-clause-causes
 returns-in_err-_settled-clause-causes g c = at_exit c.from_residual.result _ _ c.from_residual.ensures.1
-    (let so_far = c.requires.so_far.2 in
-    let blamed = (c.in_err-_settled.ensures.ends c.requires.so_far.1 so_far.owed so_far.stops so_far.tally).blamed in
+    (let so_far = c.requires.may.so_far.2 in
+    let blamed = (c.in_err-_settled.ensures.ends c.requires.may.so_far.1 so_far.owed so_far.stops so_far.tally).blamed in
     record { not_source = blamed.not_source; sink = blamed.sink; flash = blamed.flash; disk = blamed.disk })
 
 pub returns-clause-ends : goal.returns-clause-ends

@@ -8,13 +8,17 @@ use Rattle.trace_replay.proofs.TheoremLemmas.{ends_owing, ends_uncounted}
 use Rattle.trace_replay.proofs.running.run_given_later.Goals as goal
 
 pub count-requires-clause-writes : goal.count-requires-clause-writes
-count-requires-clause-writes g c = writes_counted _ _ _ _ _ _ _ c.requires.so_far.2
+count-requires-clause-writes g c = writes_counted _ _ _ _ _ _ _ c.requires.may.so_far.2
 
 pub count-requires-clause-reads : goal.count-requires-clause-reads
-count-requires-clause-reads g c = reads_counted _ _ _ _ _ _ _ c.requires.so_far.2
+count-requires-clause-reads g c = reads_counted _ _ _ _ _ _ _ c.requires.may.so_far.2
 
-pub run_line_later-requires-clause-owing : goal.run_line_later-requires-clause-owing
-run_line_later-requires-clause-owing g c = (_, _, c.requires.so_far.2.owed.owing)
+pub run_line_later-requires-clause-may : goal.run_line_later-requires-clause-may
+run_line_later-requires-clause-may g c = record {
+  owns = c.requires.may.owns;
+  owing = (_, _, c.requires.may.so_far.2.owed.owing);
+  recent = c.requires.may.recent;
+}
 
 pub returns-in_default-clause-ends : goal.returns-in_default-clause-ends
 returns-in_default-clause-ends g c = λ first run so_far s b come.
@@ -26,13 +30,13 @@ returns-in_err-_settled-clause-ends g c = at_exit c.from_residual.result _ _ c.f
     let goes = c.run_line_later.ensures.goes in
     ends_owing _ _ _ _ _ _ run so_far g.P.Script.state g.P.Script.came g.P.Script.broke g.P.Script.knows s b c.args.script.now c.run_line_later.new.script l come (g.met.P.Script.known c.args.script.now s b _ come) (goes.knew s)
     (g.V.Volume.stands (g.V.Volume.state c.run_line_later.new.volume).told) (g.R.Media.state c.run_line_later.new.rig)
-    c.in_err-_settled.field-0.0 c.requires.ack (accepts _ _ _ _ _ _ run so_far l c.requires.may_run.stops) goes.on goes.shape goes.counts c.run_line_later.ensures.spends.most
-    (c.in_err-_settled.ensures.ends run so_far.owed so_far.stops) (c.run_line_later.ensures.images run so_far.owed))
+    c.in_err-_settled.field-0.0 c.requires.ack (accepts _ _ _ _ _ _ run so_far l c.requires.may.may_run.stops) goes.on goes.shape goes.counts c.run_line_later.ensures.spends.most
+    (c.in_err-_settled.ensures.ends run so_far.owed so_far.stops) (c.run_line_later.ensures.leaves.images run so_far.owed))
 
 pub returns-in_err-_settled-clause-causes : goal.returns-in_err-_settled-clause-causes
 returns-in_err-_settled-clause-causes g c = at_exit c.from_residual.result _ _ c.from_residual.ensures.1
-    (let so_far = c.requires.so_far.2 in
-    let blamed = (c.in_err-_settled.ensures.ends c.requires.so_far.1 so_far.owed so_far.stops).blamed in
+    (let so_far = c.requires.may.so_far.2 in
+    let blamed = (c.in_err-_settled.ensures.ends c.requires.may.so_far.1 so_far.owed so_far.stops).blamed in
     record { not_source = blamed.not_source; sink = blamed.sink; flash = blamed.flash; disk = blamed.disk })
 
 pub returns-clause-ran : goal.returns-clause-ran
@@ -42,11 +46,11 @@ returns-clause-ran g c = λ first run so_far.
     let one = as_ran l s.cuts s.kept s.lost in
     let goes = c.run_line_later.ensures.goes in
     let runs = c.in_ok-_settled.ensures.runs in
-    let became = c.in_ok-_settled.ensures.became run so_far.owed so_far.stops in (
+    let became = c.in_ok-_settled.ensures.leaves.became run so_far.owed so_far.stops in (
       one,
       so_far_more _ _ _ _ _ _ run so_far (g.V.Volume.owes c.run_line_later.new.volume (g.R.Media.state c.run_line_later.new.rig).contents) (g.V.Volume.stands (g.V.Volume.state c.run_line_later.new.volume).told) l s.cuts s.kept s.lost (g.R.Media.state c.run_line_later.new.rig)
           c.count.new.tally _ (g.V.Volume.state c.run_line_later.new.volume) (λ at_write. absurd (let later = c.requires.ack in cc))
-          (accepts _ _ _ _ _ _ run so_far l c.requires.may_run.stops)
+          (accepts _ _ _ _ _ _ run so_far l c.requires.may.may_run.stops)
           c.in-Ok.ensures.counted
           goes.on goes.shape c.in_ok-_settled.ensures.spends.done
           runs

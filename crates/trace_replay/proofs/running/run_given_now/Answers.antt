@@ -11,10 +11,10 @@ use Rattle.trace_replay.proofs.TheoremLemmas.{ends_uncounted, ends_within}
 use Rattle.trace_replay.proofs.running.run_given_now.Goals as goal
 
 pub count-requires-clause-writes : goal.count-requires-clause-writes
-count-requires-clause-writes g c = writes_counted _ _ _ _ _ _ _ c.requires.so_far.2
+count-requires-clause-writes g c = writes_counted _ _ _ _ _ _ _ c.requires.may.so_far.2
 
 pub count-requires-clause-reads : goal.count-requires-clause-reads
-count-requires-clause-reads g c = reads_counted _ _ _ _ _ _ _ c.requires.so_far.2
+count-requires-clause-reads g c = reads_counted _ _ _ _ _ _ _ c.requires.may.so_far.2
 
 pub returns-in_default-clause-ends : goal.returns-in_default-clause-ends
 returns-in_default-clause-ends g c = λ first run so_far s b come.
@@ -26,13 +26,13 @@ returns-in_err-_became-clause-ends g c = at_exit c.from_residual.result _ _ c.fr
     let goes = c.run_line.ensures.goes in
     ends_within _ _ _ _ _ _ run so_far g.P.Script.state g.P.Script.came g.P.Script.broke g.P.Script.knows s b c.args.script.now c.run_line.new.script l come (g.met.P.Script.known c.args.script.now s b _ come) (goes.knew s)
     (g.V.Volume.stands (g.V.Volume.state c.run_line.new.volume).told) (g.R.Media.state c.run_line.new.rig)
-    c.in_err-_became.field-0.0 (accepts _ _ _ _ _ _ run so_far l c.requires.may_run.stops) goes.on goes.shape goes.counts c.in_err-_became.ensures.spends.ended
+    c.in_err-_became.field-0.0 (accepts _ _ _ _ _ _ run so_far l c.requires.may.may_run.stops) goes.on goes.shape goes.counts c.in_err-_became.ensures.spends.ended
     (c.in_err-_became.ensures.ends (disk_after run) (disk_now _ _ _ _ _ _ run so_far c.requires.ack)) (c.run_line.ensures.images (disk_after run) (disk_now _ _ _ _ _ _ run so_far c.requires.ack)))
 
 pub returns-in_err-_became-clause-causes : goal.returns-in_err-_became-clause-causes
 returns-in_err-_became-clause-causes g c = at_exit c.from_residual.result _ _ c.from_residual.ensures.1
-    (let so_far = c.requires.so_far.2 in
-    let blamed = (c.in_err-_became.ensures.ends (disk_after c.requires.so_far.1) (disk_now _ _ _ _ _ _ c.requires.so_far.1 so_far c.requires.ack)).blamed in
+    (let so_far = c.requires.may.so_far.2 in
+    let blamed = (c.in_err-_became.ensures.ends (disk_after c.requires.may.so_far.1) (disk_now _ _ _ _ _ _ c.requires.may.so_far.1 so_far c.requires.ack)).blamed in
     record { not_source = blamed.not_source; sink = blamed.sink; flash = blamed.flash; disk = blamed.disk })
 
 pub returns-clause-ran : goal.returns-clause-ran
@@ -48,7 +48,7 @@ returns-clause-ran g c = λ first run so_far.
       one,
       so_far_now _ _ _ _ _ _ run so_far (g.V.Volume.owes c.run_line.new.volume (g.R.Media.state c.run_line.new.rig).contents) (g.V.Volume.stands (g.V.Volume.state c.run_line.new.volume).told) l became.cuts became.kept (g.R.Media.state c.run_line.new.rig) c.count.new.tally
           (g.V.Volume.state c.run_line.new.volume) c.requires.ack
-          (accepts _ _ _ _ _ _ run so_far l c.requires.may_run.stops)
+          (accepts _ _ _ _ _ _ run so_far l c.requires.may.may_run.stops)
           c.in-Ok.ensures.counted
           goes.on goes.shape c.in_ok-_became.ensures.spends.done
           c.in_ok-_became.ensures.runs
@@ -59,4 +59,4 @@ returns-clause-ran g c = λ first run so_far.
     )
 
 pub run_line-requires-clause-clear : goal.run_line-requires-clause-clear
-run_line-requires-clause-clear g c = clear_now _ _ _ _ _ _ c.requires.so_far.1 c.requires.so_far.2 c.requires.ack
+run_line-requires-clause-clear g c = clear_now _ _ _ _ _ _ c.requires.may.so_far.1 c.requires.may.so_far.2 c.requires.ack
