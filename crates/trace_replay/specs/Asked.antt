@@ -1,5 +1,5 @@
 -- What the lines of a run ask for, and how often power is cut in it.
-use Rattle.std.specs.Prelude.{◌≡◌, ◌≤◌, ◌+◌, ℕ, Bool, true, List, [], length, sum_by, Option, Some, None, Result, Ok, Err, ⊤}
+use Rattle.std.specs.Prelude.{◌≡◌, ◌≤◌, ◌+◌, ◌^◌, ℕ, Bool, true, List, [], length, sum_by, Option, Some, None, Result, Ok, Err}
 use Rattle.ft_base.specs.Contents.{Image}
 use Rattle.ft_base.specs.PlainDisk.{PlainDisk}
 use Rattle.ft_base.specs.Told.{Told}
@@ -41,13 +41,13 @@ power_cut other = 0
 abbrev pub power_cuts : List Answer → ℕ
 power_cuts answers = sum_by power_cut answers
 
--- where no stop and no cut line was run, no more blocks were read from the disk than these lines read
+-- if no stop and no cut line was run, no more blocks were read from the disk than these lines read
 pub record ReadsNoMore (run : List Ran) (old new : ℕ) : Type 0 where
   pub most : AreUncut run → new ≤ old + asked_reads (lines_of run)
 
--- a total, if it fits
+-- a total; or none if it is 2^64 or more
 abbrev pub IsTotal : ℕ → Option ℕ → Type 0
-IsTotal total None = ⊤
+IsTotal total None = 2 ^ 64 ≤ total
 IsTotal total (Some count) = count ≡ total
 
 -- of these events the lines and the answers were counted
