@@ -1,4 +1,5 @@
 pub mod Alone
+pub mod Ends
 pub mod Known
 pub mod Lines
 pub mod Printing

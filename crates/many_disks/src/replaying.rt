@@ -1,12 +1,10 @@
 //! Runs of a trace over several disks.
-ghost use Rattle.std.specs.Prelude.{◌≤◌, ◌/◌};
+ghost use Rattle.std.specs.Prelude.{◌≤◌};
 ghost use Rattle.ft_volume.specs.Volume.{StaysOwner};
 ghost use Rattle.trace_replay.specs.AsMade.{IsAsMade};
 ghost use Rattle.trace_replay.specs.Causes.{EndHasCause};
 ghost use Rattle.trace_replay.specs.Lent.{KeepsLent};
-ghost use Rattle.trace_replay.specs.Theorem.{EndsAs};
-ghost use Rattle.many_disks.specs.Readings.{ReadsMany};
-ghost use Rattle.many_disks.specs.Told.{TellsMany, TellsManyPart};
+ghost use Rattle.many_disks.specs.Ends.{EndsMany};
 
 use crate::script::ManyScript;
 use ft_base::{Sink, Source};
@@ -35,11 +33,8 @@ pub fn replay_many<I: Source, O: Sink, R: Rig, V: Volume<R>>(
     requires few { disks ≤ 16 }
     requires shared { disks ≤ (V.state volume.old).told.geometry.size }
     ensures owner { StaysOwner (V.owns volume.new) (R.state rig.new).contents (V.state volume.old) (V.state volume.new) }
-    ensures ends { let share = (V.state volume.old).told.geometry.size / disks in EndsAs (V.state volume.old).told
-        (ReadsMany share disks (I.state source.old) (I.state source.new))
-        (TellsMany share disks (I.state source.old) (O.state sink.old) (O.state sink.new))
-        (TellsManyPart share disks (I.state source.old) (O.state sink.old) (O.state sink.new))
-        (V.stands (V.state volume.new).told) (R.state rig.old) (R.state rig.new) result }
+    ensures ends { EndsMany (V.state volume.old).told disks (I.state source.old) (I.state source.new) (O.state sink.old)
+        (O.state sink.new) (V.stands (V.state volume.new).told) (R.state rig.old) (R.state rig.new) result }
     ensures causes { EndHasCause result (I.state source.old) (I.state source.new) (O.state sink.old) (O.state sink.new) (R.state rig.old)
         (R.state rig.new) }
     ensures lent { KeepsLent (I.state source.old) (I.state source.new) (O.state sink.old) (O.state sink.new) (R.state rig.old)

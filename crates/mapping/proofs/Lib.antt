@@ -19,4 +19,6 @@ pub mod FewLemmas
 pub mod ListingLemmas
 pub mod SeekingLemmas
 pub mod ApplyLemmas
+pub mod DirtyLemmas
+pub mod MarkedLemmas
 pub mod Words

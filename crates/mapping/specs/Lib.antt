@@ -10,5 +10,7 @@ pub mod Index
 pub mod Ranges
 pub mod Room
 pub mod Seeking
+pub mod DirtyGroups
+pub mod MarkedGroups
 pub mod Kept
 pub mod Candidates

@@ -5,13 +5,13 @@ ghost use Rattle.ft_base.specs.declared.record.Record.TheVariants.{SetPage};
 ghost use Rattle.ft_base.specs.Layout.{first_pool, blocks};
 ghost use Rattle.cache_model.specs.Records.{after};
 ghost use Rattle.cache_model.specs.Entries.{in_pool, page_mapped, blocks_with, InPool, Fits};
-ghost use Rattle.mapping.specs.Counts.{dirty_group_count};
 ghost use Rattle.mapping.specs.Index.{IsIndexed, tally, is_mapped_in};
+ghost use Rattle.mapping.specs.MarkedGroups.{AreMarkedGroups};
 ghost use Rattle.mapping.specs.Seeking.{log_block};
 
 use crate::held::Held;
 use crate::index::Index;
-use crate::marks::{Mark, may_have};
+use crate::marks::{Mark, MarkedGroups};
 use crate::seeking::{Sought, found_in, is_taken};
 use ft_base::{Geometry, Place};
 
@@ -73,24 +73,33 @@ fn count_log_blocks(held: &Held, index: &Index, geometry: &Geometry, lba: u64, a
     used
 }
 
-/// Whether a page of a log block may have the block of an address. `dirty_groups` groups are dirty now.
+/// A page of a log block that is to have the block of an address.
+#[derive(Clone, Copy, Debug, PartialEq, Eq)]
+pub struct NewPage {
+    /// Where the page is.
+    pub at: Place,
+    /// Whether the disk lacks the block.
+    pub dirty: bool,
+}
+
+/// Whether a page of a log block may have the block of an address.
 pub fn fits_page(
     held: &Held,
     index: &Index,
+    marked: &MarkedGroups,
     geometry: &Geometry,
-    dirty_groups: u32,
     lba: u64,
-    at: Place,
-    dirty: bool,
+    page: NewPage,
 ) -> bool
     requires geometry { held.now.geometry ≡ geometry.now }
     requires indexed { IsIndexed geometry.now held.now.entries index.now }
-    requires dirty_groups { dirty_groups ≡ dirty_group_count geometry.now held.now.entries }
-    ensures { IsTrue result ↔ Fits geometry.now (SetPage lba at dirty) held.now.entries }
+    requires marked { AreMarkedGroups geometry.now held.now.entries marked.now }
+    ensures { IsTrue result ↔ Fits geometry.now (SetPage lba page.at page.dirty) held.now.entries }
 {
     if lba >= geometry.size {
         return false;
     }
+    let at = page.at;
     if !is_in_pool(geometry, at) {
         return false;
     }
@@ -112,5 +121,5 @@ pub fn fits_page(
         return false;
     }
     let group = lba / geometry.p as u64;
-    may_have(held, geometry, dirty_groups, Mark::Dirty, group, lba, dirty)
+    marked.may_have(held, geometry, Mark::Dirty, group, page.dirty)
 }

@@ -2,14 +2,14 @@
 ghost use Rattle.std.specs.Prelude.{◌≡◌, ◌<◌, ◌≤◌, ◌-◌, ◌/◌, ◌^◌, ◌↔◌, IsTrue};
 ghost use Rattle.ft_base.specs.declared.record.Record.TheVariants.{SetGroup};
 ghost use Rattle.cache_model.specs.Entries.{Fits};
-ghost use Rattle.mapping.specs.Counts.{dirty_group_count, data_block_count};
 ghost use Rattle.mapping.specs.Fitting.{HasPageBelow, EndsBelowSize, BlockMayCome};
 ghost use Rattle.mapping.specs.Index.{IsIndexed};
+ghost use Rattle.mapping.specs.MarkedGroups.{AreMarkedGroups};
 
-use crate::fitting::fits_page;
+use crate::fitting::{NewPage, fits_page};
 use crate::held::Held;
 use crate::index::Index;
-use crate::marks::{Mark, may_have};
+use crate::marks::{Mark, MarkedGroups};
 use crate::seeking::{Sought, found_in};
 use block_map::page_set::{PAGES, PageSet};
 use ft_base::{Geometry, Record};
@@ -79,66 +79,68 @@ fn may_come(
     ends_below_size(geometry, group, present)
 }
 
-/// Whether an erase block may become the data block of a group, with these pages. `dirty_groups` groups are dirty now,
-/// and `data_blocks` groups have a data block.
+/// A data block that a group is to have.
+#[derive(Clone, Copy, Debug, PartialEq, Eq)]
+pub struct NewBlock {
+    /// The erase block.
+    pub block: u32,
+    /// The pages that are present.
+    pub present: PageSet,
+    /// The pages that are dirty if they are present.
+    pub dirty: PageSet,
+}
+
+/// Whether an erase block may become the data block of a group.
 pub fn fits_group(
     held: &Held,
     index: &Index,
+    marked: &MarkedGroups,
     geometry: &Geometry,
-    dirty_groups: u32,
-    data_blocks: u32,
     group: u64,
-    block: u32,
-    present: PageSet,
-    dirty: PageSet,
+    new: NewBlock,
 ) -> bool
     requires geometry { held.now.geometry ≡ geometry.now }
     requires indexed { IsIndexed geometry.now held.now.entries index.now }
-    requires dirty_groups { dirty_groups ≡ dirty_group_count geometry.now held.now.entries }
-    requires data_blocks { data_blocks ≡ data_block_count geometry.now held.now.entries }
-    ensures { IsTrue result ↔ Fits geometry.now (SetGroup group block present dirty) held.now.entries }
+    requires marked { AreMarkedGroups geometry.now held.now.entries marked.now }
+    ensures { IsTrue result ↔ Fits geometry.now (SetGroup group new.block new.present new.dirty) held.now.entries }
 {
     if group > (geometry.size - 1) / geometry.p as u64 {
         return false;
     }
-    if !is_set_below(geometry, present) {
+    if !is_set_below(geometry, new.present) {
         return false;
     }
-    if !is_set_below(geometry, dirty) {
+    if !is_set_below(geometry, new.dirty) {
         return false;
     }
-    if !may_come(held, index, geometry, group, block, present) {
+    if !may_come(held, index, geometry, group, new.block, new.present) {
         return false;
     }
-    let near = group * geometry.p as u64;
-    let mapped = has_page(geometry, present);
-    let mark = Mark::BlockMapped;
-    if !may_have(held, geometry, data_blocks, mark, group, near, mapped) {
+    let has_block = has_page(geometry, new.present);
+    if !marked.may_have(held, geometry, Mark::BlockMapped, group, has_block) {
         return false;
     }
-    let marked = has_page(geometry, present & dirty);
-    let mark = Mark::Dirty;
-    may_have(held, geometry, dirty_groups, mark, group, near, marked)
+    let is_dirty = has_page(geometry, new.present & new.dirty);
+    marked.may_have(held, geometry, Mark::Dirty, group, is_dirty)
 }
 
 /// Whether a change may be applied next.
 pub fn fits(
     held: &Held,
     index: &Index,
+    marked: &MarkedGroups,
     geometry: &Geometry,
-    dirty_groups: u32,
-    data_blocks: u32,
     change: &Record,
 ) -> bool
     requires geometry { held.now.geometry ≡ geometry.now }
     requires indexed { IsIndexed geometry.now held.now.entries index.now }
-    requires dirty_groups { dirty_groups ≡ dirty_group_count geometry.now held.now.entries }
-    requires data_blocks { data_blocks ≡ data_block_count geometry.now held.now.entries }
+    requires marked { AreMarkedGroups geometry.now held.now.entries marked.now }
     ensures { IsTrue result ↔ Fits geometry.now change.now held.now.entries }
 {
     match *change {
         Record::SetPage { lba, place, dirty } => {
-            fits_page(held, index, geometry, dirty_groups, lba, place, dirty)
+            let page = NewPage { at: place, dirty };
+            fits_page(held, index, marked, geometry, lba, page)
         }
         Record::Remove { lba } => lba < geometry.size,
         Record::Clean { lba } => lba < geometry.size,
@@ -147,17 +149,14 @@ pub fn fits(
             block,
             present,
             dirty,
-        } => fits_group(
-            held,
-            index,
-            geometry,
-            dirty_groups,
-            data_blocks,
-            group,
-            block,
-            present,
-            dirty,
-        ),
+        } => {
+            let new = NewBlock {
+                block,
+                present,
+                dirty,
+            };
+            fits_group(held, index, marked, geometry, group, new)
+        }
         Record::RemoveGroup { group } => group <= (geometry.size - 1) / geometry.p as u64,
     }
 }

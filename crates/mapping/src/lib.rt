@@ -12,6 +12,7 @@
 mod bits;
 mod candidates;
 mod checkpoint;
+mod dirty;
 mod fitting;
 mod grouping;
 mod held;

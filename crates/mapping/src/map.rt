@@ -19,9 +19,9 @@ use crate::fitting::is_in_pool;
 use crate::grouping::fits;
 use crate::held::Held;
 use crate::index::Index;
-use crate::marks::{Mark, has_mark, recount};
+use crate::marks::{MarkedGroups, recount, recount_dirty};
 use crate::numbers::{pool_pages, pool_place};
-use crate::ranges::{change_entries, first_of, group_of};
+use crate::ranges::{change_entries, group_of};
 use crate::seeking::{Sought, found_in};
 use crate::sets::chosen_any;
 use block_map::BlockAt;
@@ -37,8 +37,7 @@ pub struct Map {
     held: Held,
     index: Index,
     candidates: Candidates,
-    dirty_groups: u32,
-    data_blocks: u32,
+    marked: MarkedGroups,
     spare_pages: u32,
     spare_groups: u32,
 }
@@ -64,8 +63,7 @@ impl Model for Map {
       group_buckets = m.held.group_buckets;
     } };
 
-    ghost invariant = { λ m. KeepsMap m.geometry m.held m.index m.candidates.counts.items m.dirty_groups m.data_blocks m.spare_pages
-        m.spare_groups };
+    ghost invariant = { λ m. KeepsMap m.geometry m.held m.index m.candidates.counts.items m.marked m.spare_pages m.spare_groups };
 }
 
 impl Map {
@@ -82,8 +80,7 @@ impl Map {
             held: Held::new(alloc, geometry),
             index: Index::new(alloc, geometry)?,
             candidates: Candidates::new(alloc, geometry)?,
-            dirty_groups: 0,
-            data_blocks: 0,
+            marked: MarkedGroups::new(alloc, geometry)?,
             spare_pages: 0,
             spare_groups: 0,
         })
@@ -181,9 +178,8 @@ impl Map {
         fits(
             &self.held,
             &self.index,
+            &self.marked,
             &self.geometry,
-            self.dirty_groups,
-            self.data_blocks,
             change,
         )
     }
@@ -228,16 +224,17 @@ impl Map {
         ensures group_buckets { self.new.group_buckets ≡ self.old.group_buckets }
     {
         let geometry = self.geometry;
-        let near = first_of(&geometry, change);
         let group = group_of(&geometry, change);
-        let was_dirty = has_mark(&self.held, &geometry, Mark::Dirty, group, near);
+        let all_dirty = self.index.dirty;
         let before = self.held.block_of(group);
         change_entries(&mut self.held, &mut self.index, &geometry, change);
-        let is_dirty = has_mark(&self.held, &geometry, Mark::Dirty, group, near);
         let now = self.held.block_of(group);
-        self.dirty_groups = recount(self.dirty_groups, was_dirty, is_dirty);
-        self.data_blocks = recount(self.data_blocks, before.is_some(), now.is_some());
-        self.candidates.note(&geometry, before, now, is_dirty);
+        // The change concerns this group alone. So its count changes as the count of all does.
+        let count = self.marked.dirty.count(group);
+        let dirty = recount_dirty(count, all_dirty, self.index.dirty);
+        self.marked.dirty.set(group, dirty);
+        self.marked.data_blocks = recount(self.marked.data_blocks, before.is_some(), now.is_some());
+        self.candidates.note(&geometry, before, now, dirty > 0);
         self.spare_pages -= taken_pages(change);
         self.spare_groups -= taken_groups(change);
     }
@@ -271,7 +268,7 @@ impl Map {
         ensures count { result ≡ dirty_group_count self.now.geometry self.now.entries }
         ensures most { result ≤ self.now.geometry.c }
     {
-        self.dirty_groups
+        self.marked.dirty.len() as u32
     }
 
     /// How many groups have a data block: at most C.
@@ -279,7 +276,7 @@ impl Map {
         ensures count { result ≡ data_block_count self.now.geometry self.now.entries }
         ensures most { result ≤ self.now.geometry.c }
     {
-        self.data_blocks
+        self.marked.data_blocks
     }
 
     /// The data block of a group, with its present and its dirty pages. `None` if no address of the group stands in a
