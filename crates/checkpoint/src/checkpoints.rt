@@ -110,11 +110,12 @@ impl Checkpoints {
         ensures drives { OnlyDrives (M.state media.old) (M.state media.new) result }
     {
         let target = Target {
+            geometry: self.geometry,
             region: 1 - log.region(),
             era: (log.era() + 1) % 3,
         };
         let asked = self.asked.as_mut_slice();
-        write_checkpoint(media, &mut self.page, asked, &self.geometry, map, &target)?;
+        write_checkpoint(media, &mut self.page, asked, map, &target)?;
         log.restart(target.region, target.era);
         Ok(())
     }

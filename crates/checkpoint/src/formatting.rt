@@ -31,8 +31,11 @@ pub fn format<M: Media>(media: &mut M, geometry: &Geometry) -> Result<(), MediaE
     program_seal(
         media,
         &mut page,
-        geometry,
-        &Target { region: 0, era: 0 },
+        &Target {
+            geometry: *geometry,
+            region: 0,
+            era: 0,
+        },
         0,
         0,
         &Totals {

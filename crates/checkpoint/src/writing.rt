@@ -23,9 +23,11 @@ use ft_media::{Media, MediaError};
 use mapping::Map;
 use page_oob::write_spare;
 
-/// The region to which a checkpoint goes, and its era.
+/// The region to which a checkpoint of a cache goes, and its era.
 #[derive(Clone, Copy, Debug, PartialEq, Eq)]
 pub(crate) struct Target {
+    /// The numbers of the cache.
+    pub(crate) geometry: Geometry,
     /// The region, 0 or 1.
     pub(crate) region: u32,
     /// The era, 0 to 2.
@@ -39,27 +41,26 @@ pub(crate) struct Target {
 fn program_map<M: Media>(
     media: &mut M,
     page: &mut Block,
-    geometry: &Geometry,
     target: &Target,
     sequence: u32,
     records: &[Record],
 ) -> Result<(), MediaError>
-    requires shape { FitsOn geometry.now (M.state media.old).contents.shape }
-    requires kinds { list_all (may_stand_in (is_wide 2 geometry.now.p) PageKind.Map) records.now ≡ true }
+    requires shape { FitsOn target.now.geometry (M.state media.old).contents.shape }
+    requires kinds { list_all (may_stand_in (is_wide 2 target.now.geometry.p) PageKind.Map) records.now ≡ true }
     requires some { 1 ≤ length records.now }
-    requires few { length records.now ≤ page_records geometry.now }
-    requires room { sequence < checkpoint_pages geometry.now }
-    requires ready { IsNextPage (checkpoint_at geometry.now target.now.region sequence) (M.state media.old).contents.flash }
-    ensures done { OnOk result (Programmed (IsMapPage geometry.now target.now.era sequence records.now)
-        (checkpoint_at geometry.now target.now.region sequence) (M.state media.old).contents.flash (M.state media.new).contents.flash) }
+    requires few { length records.now ≤ page_records target.now.geometry }
+    requires room { sequence < checkpoint_pages target.now.geometry }
+    requires ready { IsNextPage (checkpoint_at target.now.geometry target.now.region sequence) (M.state media.old).contents.flash }
+    ensures done { OnOk result (Programmed (IsMapPage target.now.geometry target.now.era sequence records.now)
+        (checkpoint_at target.now.geometry target.now.region sequence) (M.state media.old).contents.flash (M.state media.new).contents.flash) }
     ensures counts { OnOk result ((M.state media.new).counts ≡ program_counted (M.state media.old).counts) }
-    ensures pages { LeavesOne (IsMapPage geometry.now target.now.era sequence records.now)
-        (checkpoint_at geometry.now target.now.region sequence) (M.state media.old).contents.flash (M.state media.new).contents.flash }
+    ensures pages { LeavesOne (IsMapPage target.now.geometry target.now.era sequence records.now)
+        (checkpoint_at target.now.geometry target.now.region sequence) (M.state media.old).contents.flash (M.state media.new).contents.flash }
     ensures programs { OnOk result (ProgramsPages 1 (M.state media.old) (M.state media.new)) }
     ensures drives { OnlyDrives (M.state media.old) (M.state media.new) result }
 {
-    write_map(page, geometry.p, records, target.era, sequence);
-    let at = geometry.checkpoint_at(target.region, sequence);
+    write_map(page, target.geometry.p, records, target.era, sequence);
+    let at = target.geometry.checkpoint_at(target.region, sequence);
     let spare = write_spare(SpareKind::Map, target.era, sequence as u64);
     media.program(at, page, &spare)?;
     Ok(())
@@ -70,28 +71,27 @@ fn program_maps<M: Media>(
     media: &mut M,
     page: &mut Block,
     asked: &mut [Record],
-    geometry: &Geometry,
     map: &Map,
     target: &Target,
     pages: u32,
 ) -> Result<(), MediaError>
-    requires can { CanProgram geometry.now map.now (M.state media.old).contents }
-    requires all { pages ≡ map_pages geometry.now map.now.records }
-    requires room { pages < checkpoint_pages geometry.now }
-    requires blank { AreBlank (target.now.region * k geometry.now) (k geometry.now) (M.state media.old).contents.flash }
-    requires asked { length asked.old ≡ asked_records geometry.now }
-    ensures asked { length asked.new ≡ asked_records geometry.now }
-    ensures done { OnOk result (MapsWritten geometry.now target.now.region target.now.era map.now.records pages
+    requires can { CanProgram target.now.geometry map.now (M.state media.old).contents }
+    requires all { pages ≡ map_pages target.now.geometry map.now.records }
+    requires room { pages < checkpoint_pages target.now.geometry }
+    requires blank { AreBlank (target.now.region * k target.now.geometry) (k target.now.geometry) (M.state media.old).contents.flash }
+    requires asked { length asked.old ≡ asked_records target.now.geometry }
+    ensures asked { length asked.new ≡ asked_records target.now.geometry }
+    ensures done { OnOk result (MapsWritten target.now.geometry target.now.region target.now.era map.now.records pages
         (M.state media.old).contents.flash (M.state media.new).contents.flash) }
     ensures counts { OnOk result ((M.state media.new).counts ≡ programs_counted pages (M.state media.old).counts) }
-    ensures pages { LeavesMaps geometry.now target.now.region (M.state media.old).contents.flash.page
+    ensures pages { LeavesMaps target.now.geometry target.now.region (M.state media.old).contents.flash.page
         (M.state media.new).contents.flash.page }
     ensures drives { OnlyDrives (M.state media.old) (M.state media.new) result }
 {
     for sequence in 0..pages {
-        ask(geometry, map, asked, sequence);
-        let records = records_of(geometry, map, asked, sequence);
-        program_map(media, page, geometry, target, sequence, records)?;
+        ask(&target.geometry, map, asked, sequence);
+        let records = records_of(&target.geometry, map, asked, sequence);
+        program_map(media, page, target, sequence, records)?;
     }
     Ok(())
 }
@@ -100,25 +100,24 @@ fn program_maps<M: Media>(
 pub(crate) fn program_seal<M: Media>(
     media: &mut M,
     page: &mut Block,
-    geometry: &Geometry,
     target: &Target,
     pages: u32,
     records: u32,
     totals: &Totals,
 ) -> Result<(), MediaError>
-    requires shape { FitsOn geometry.now (M.state media.old).contents.shape }
-    requires room { pages < checkpoint_pages geometry.now }
-    requires ready { IsNextPage (checkpoint_at geometry.now target.now.region pages) (M.state media.old).contents.flash }
-    ensures done { OnOk result (Programmed (IsSealPage geometry.now totals.now target.now.era pages records)
-        (checkpoint_at geometry.now target.now.region pages) (M.state media.old).contents.flash (M.state media.new).contents.flash) }
+    requires shape { FitsOn target.now.geometry (M.state media.old).contents.shape }
+    requires room { pages < checkpoint_pages target.now.geometry }
+    requires ready { IsNextPage (checkpoint_at target.now.geometry target.now.region pages) (M.state media.old).contents.flash }
+    ensures done { OnOk result (Programmed (IsSealPage target.now.geometry totals.now target.now.era pages records)
+        (checkpoint_at target.now.geometry target.now.region pages) (M.state media.old).contents.flash (M.state media.new).contents.flash) }
     ensures counts { OnOk result ((M.state media.new).counts ≡ program_counted (M.state media.old).counts) }
-    ensures pages { LeavesOne (IsSealPage geometry.now totals.now target.now.era pages records) (checkpoint_at geometry.now target.now.region pages)
+    ensures pages { LeavesOne (IsSealPage target.now.geometry totals.now target.now.era pages records) (checkpoint_at target.now.geometry target.now.region pages)
         (M.state media.old).contents.flash (M.state media.new).contents.flash }
     ensures programs { OnOk result (ProgramsPages 1 (M.state media.old) (M.state media.new)) }
     ensures drives { OnlyDrives (M.state media.old) (M.state media.new) result }
 {
-    write_numbers(page, geometry, target.era, pages, records, totals);
-    let at = geometry.checkpoint_at(target.region, pages);
+    write_numbers(page, &target.geometry, target.era, pages, records, totals);
+    let at = target.geometry.checkpoint_at(target.region, pages);
     let spare = write_spare(SpareKind::Seal, target.era, pages as u64);
     media.program(at, page, &spare)?;
     Ok(())
@@ -148,33 +147,32 @@ pub(crate) fn write_checkpoint<M: Media>(
     media: &mut M,
     page: &mut Block,
     asked: &mut [Record],
-    geometry: &Geometry,
     map: &Map,
     target: &Target,
 ) -> Result<(), MediaError>
-    requires shape { FitsOn geometry.now (M.state media.old).contents.shape }
-    requires map { map.now.geometry ≡ geometry.now }
-    requires is_map { IsMap geometry.now map.now.entries }
-    requires asked { length asked.old ≡ asked_records geometry.now }
-    ensures asked { length asked.new ≡ asked_records geometry.now }
-    ensures listing { IsCheckpointOf geometry.now map.now.entries map.now.records }
-    ensures done { OnOk result (IsWritten geometry.now target.now.region target.now.era map.now.records (totals_of map.now.entries)
+    requires shape { FitsOn target.now.geometry (M.state media.old).contents.shape }
+    requires map { map.now.geometry ≡ target.now.geometry }
+    requires is_map { IsMap target.now.geometry map.now.entries }
+    requires asked { length asked.old ≡ asked_records target.now.geometry }
+    ensures asked { length asked.new ≡ asked_records target.now.geometry }
+    ensures listing { IsCheckpointOf target.now.geometry map.now.entries map.now.records }
+    ensures done { OnOk result (IsWritten target.now.geometry target.now.region target.now.era map.now.records (totals_of map.now.entries)
         (M.state media.old).contents.flash (M.state media.new).contents.flash) }
-    ensures counts { OnOk result ((M.state media.new).counts ≡ checkpoint_counted geometry.now (map_pages geometry.now map.now.records)
+    ensures counts { OnOk result ((M.state media.new).counts ≡ checkpoint_counted target.now.geometry (map_pages target.now.geometry map.now.records)
         (M.state media.old).counts) }
-    ensures pages { IsUnsealed geometry.now target.now.region (M.state media.old).contents.flash.page
+    ensures pages { IsUnsealed target.now.geometry target.now.region (M.state media.old).contents.flash.page
         (M.state media.new).contents.flash.page
-        ⊎ IsSealed geometry.now target.now.region target.now.era map.now.records (totals_of map.now.entries)
+        ⊎ IsSealed target.now.geometry target.now.region target.now.era map.now.records (totals_of map.now.entries)
         (M.state media.old).contents.flash.page (M.state media.new).contents.flash.page }
     ensures programs { OnOk result (ProgramsPages 1 (M.state media.old) (M.state media.new)) }
     ensures drives { OnlyDrives (M.state media.old) (M.state media.new) result }
 {
     let records = map.checkpoint_len();
-    let pages = page_count(geometry, records);
+    let pages = page_count(&target.geometry, records);
     let totals = totals_of(map);
-    erase_regions(media, geometry, target.region)?;
-    program_maps(media, page, asked, geometry, map, target, pages)?;
+    erase_regions(media, &target.geometry, target.region)?;
+    program_maps(media, page, asked, map, target, pages)?;
     // The seal comes last: until it is whole, the old checkpoint counts.
-    program_seal(media, page, geometry, target, pages, records, &totals)?;
+    program_seal(media, page, target, pages, records, &totals)?;
     Ok(())
 }

@@ -14,4 +14,4 @@ mod walk;
 pub use error::OpenError;
 pub use log::OpLog;
 pub use stamp::Stamp;
-pub use walk::{apply_page, roll};
+pub use walk::{Expected, apply_page, roll};

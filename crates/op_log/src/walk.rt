@@ -24,15 +24,24 @@ use mapping::Map;
 use record_codec::{Header, read_page_header, read_records};
 use std::alloc::AllocError;
 
-/// Reads a page. If it is of this kind and stamp, with this sequence, applies its records to the map. It answers false
-/// if the page isn't; then the map is unchanged.
+/// The page of records that is expected next.
+#[derive(Clone, Copy, Debug, PartialEq, Eq)]
+pub struct Expected {
+    /// A map page or a log page.
+    pub kind: PageKind,
+    /// The stamp of its checkpoint.
+    pub stamp: Stamp,
+    /// Its place in its region, from 0.
+    pub sequence: u32,
+}
+
+/// Reads a page. If it is the expected one, applies its records to the map. It answers false if the page isn't; then
+/// the map is unchanged.
 pub fn apply_page<M: Media>(
     media: &mut M,
     geometry: &Geometry,
     at: Place,
-    kind: PageKind,
-    stamp: Stamp,
-    sequence: u32,
+    expected: Expected,
     map: &mut Map,
 ) -> Result<bool, OpenError>
     requires shape { FitsOn geometry.now (M.state media.old).contents.shape }
@@ -41,18 +50,18 @@ pub fn apply_page<M: Media>(
     requires map { map.old.geometry ≡ geometry.now }
     ensures geometry { map.new.geometry ≡ map.old.geometry }
     ensures kinds { IfErr result IsOfPages }
-    ensures room { IfOk result (λ applied. TakesRoom (records_at geometry.now.p kind (named stamp) sequence
+    ensures room { IfOk result (λ applied. TakesRoom (records_at geometry.now.p expected.kind (named expected.stamp) expected.sequence
         ((M.state media.old).contents.flash.page at)) map.old map.new) }
     ensures few { IfOk result (λ applied. KeepsFewBuckets map.old map.new) }
     ensures answers { Stepped result map.old.entries map.new.entries
-        (page_step geometry.now kind (named stamp) sequence at ((M.state media.old).contents.flash.page at) map.old.entries) }
+        (page_step geometry.now expected.kind (named expected.stamp) expected.sequence at ((M.state media.old).contents.flash.page at) map.old.entries) }
     ensures reads { ReadsFlash (M.state media.old) (M.state media.new) (open_failed result) (open_lost result) }
 {
     let mut block = zero_block();
     if !read_whole(media, at, &mut block)? {
         return Ok(false);
     }
-    let Some(header) = header_of(&block, kind, stamp, sequence) else {
+    let Some(header) = header_of(&block, expected) else {
         return Ok(false);
     };
     if !apply_records(&block, &header, geometry.p, map)? {
@@ -89,23 +98,25 @@ fn is_whole(found: PageRead) -> bool
     }
 }
 
-/// The header of a page of records, if the page is of this kind and stamp, at its own place.
-fn header_of(block: &Block, kind: PageKind, stamp: Stamp, sequence: u32) -> Option<Header>
-    ensures value { result ≡ when (is_page kind (named stamp) sequence) (header_read block.now.0) }
+/// The header of a page of records, if the page is the expected one.
+fn header_of(block: &Block, expected: Expected) -> Option<Header>
+    ensures value { result ≡ when (is_page expected.kind (named expected.stamp) expected.sequence) (header_read block.now.0) }
     ensures read { IfSome result (λ h. header_read block.now.0 ≡ Some h) }
 {
     let header = read_page_header(block)?;
-    if !is_page(&header, kind, stamp, sequence) {
+    if !is_page(&header, expected) {
         return None;
     }
     Some(header)
 }
 
-/// Whether a header is of this kind and stamp, and says that its page stands at this place.
-fn is_page(header: &Header, kind: PageKind, stamp: Stamp, sequence: u32) -> bool
-    ensures { result ≡ is_page kind (named stamp) sequence header.now }
+/// Whether a header is that of the expected page.
+fn is_page(header: &Header, expected: Expected) -> bool
+    ensures { result ≡ is_page expected.kind (named expected.stamp) expected.sequence header.now }
 {
-    header.kind == kind && stamp.is_of(header) && header.sequence == sequence
+    header.kind == expected.kind
+        && expected.stamp.is_of(header)
+        && header.sequence == expected.sequence
 }
 
 /// Applies the records of a page in order, for a cache with `p` pages in an erase block. It answers false if the page
@@ -208,7 +219,12 @@ pub fn roll<M: Media>(
     let pages = geometry.j * geometry.p;
     for i in 0..pages {
         let at = geometry.log_at(region, i);
-        if !apply_page(media, geometry, at, PageKind::Log, stamp, i, map)? {
+        let expected = Expected {
+            kind: PageKind::Log,
+            stamp,
+            sequence: i,
+        };
+        if !apply_page(media, geometry, at, expected, map)? {
             return Ok(i);
         }
     }

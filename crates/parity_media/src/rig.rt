@@ -97,12 +97,12 @@ impl<'a, R: Rig, K: Start> ParityRig<'a, R, K> {
     /// What holds of each block at any time: if it is complete, or if it is ready and its last page isn't blank, its
     /// pages are whole and the parity page beneath is their exclusive or.
     pub fn parity_laws(&self)
-        ensures complete { (b : ℕ) → b < (⟦<ParityRig<'a, R, K> as Media>⟧.state self.now).contents.shape.blocks → (parity_of self.now.parities b).complete ≡ true
-            → HasParity (pages_of (R.state self.now.rig.now).contents.flash.page b) (⟦<ParityRig<'a, R, K> as Media>⟧.state self.now).contents.shape.pages }
-        ensures full { (b last : ℕ) → (⟦<ParityRig<'a, R, K> as Media>⟧.state self.now).contents.shape.pages ≡ last + 1
-            → (⟦<ParityRig<'a, R, K> as Media>⟧.state self.now).contents.flash.next b ≢ None
-            → (⟦<ParityRig<'a, R, K> as Media>⟧.state self.now).contents.flash.page (record { block = b; page = last }) ≢ content.Blank
-            → HasParity (pages_of (R.state self.now.rig.now).contents.flash.page b) (⟦<ParityRig<'a, R, K> as Media>⟧.state self.now).contents.shape.pages }
+        ensures complete { let shown = (⟦<ParityRig<'a, R, K> as Media>⟧.state self.now).contents in (b : ℕ) → b < shown.shape.blocks
+            → (parity_of self.now.parities b).complete ≡ true
+            → HasParity (pages_of (R.state self.now.rig.now).contents.flash.page b) shown.shape.pages }
+        ensures full { let shown = (⟦<ParityRig<'a, R, K> as Media>⟧.state self.now).contents in (b last : ℕ) → shown.shape.pages ≡ last + 1
+            → shown.flash.next b ≢ None → shown.flash.page (record { block = b; page = last }) ≢ content.Blank
+            → HasParity (pages_of (R.state self.now.rig.now).contents.flash.page b) shown.shape.pages }
     {}
 }
 

@@ -1,5 +1,5 @@
 -- A flash as a list of its pages, and the result of loading it.
-use Rattle.std.specs.Prelude.{◌≡◌, ℕ, ◌+◌, ◌*◌, List, Option, slice_index_or, Result, Ok, Err}
+use Rattle.std.specs.Prelude.{◌≡◌, ℕ, ◌+◌, ◌*◌, List, Option, MatchOption, slice_index_or, Result, Ok, Err}
 use Rattle.ft_base.specs.declared.geometry.Geometry.{Geometry}
 use Rattle.ft_base.specs.declared.block.Place.{Place}
 use Rattle.ft_base.specs.declared.block.Page.{Page}
@@ -45,6 +45,15 @@ abbrev pub region_pages : PageKind → Geometry → ℕ
 region_pages Log g = log_pages g
 region_pages Map g = checkpoint_pages g
 region_pages Seal g = checkpoint_pages g
+
+-- the entries after the pages of a kind and a stamp, from the start of a region on
+abbrev pub after_part : Geometry → List Page → PageKind → Stamp → ℕ → ℕ → Entries → Result Entries Refusal
+after_part g pages kind stamp region count m =
+    loading.after_pages g kind stamp (place_of kind g region) 0 (loading.pages_from (page_listed g pages) (place_of kind g region) 0 count) m
+
+-- no page was found damaged and these are the entries, or this is the damaged page
+abbrev pub IsApplied : Option Place → Entries → Result Entries Refusal → Type 0
+IsApplied damaged m applied = MatchOption damaged (applied ≡ Ok m) (λ at. applied ≡ Err (loading.Damaged at))
 
 -- the program's answer is the answer of loading
 abbrev pub IsPlainLoad : Geometry → PlainLoad → Result Entries Refusal → Type 0

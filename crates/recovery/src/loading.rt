@@ -20,7 +20,7 @@ use checkpoint::Newest;
 use ft_base::Geometry;
 use ft_media::Media;
 use mapping::Map;
-use op_log::{OpenError, Stamp, apply_page, roll};
+use op_log::{Expected, OpenError, Stamp, apply_page, roll};
 use std::alloc::Global;
 
 /// The map for which the flash stands, with the region and the era of its checkpoint.
@@ -136,7 +136,12 @@ fn apply_maps<M: Media>(
     };
     for i in 0..newest.pages {
         let at = geometry.checkpoint_at(newest.region, i);
-        if !apply_page(media, geometry, at, PageKind::Map, stamp, i, map)? {
+        let expected = Expected {
+            kind: PageKind::Map,
+            stamp,
+            sequence: i,
+        };
+        if !apply_page(media, geometry, at, expected, map)? {
             return Ok(());
         }
     }

@@ -1,12 +1,14 @@
 -- The block writes that a power cut lost, found by reading back.
-use Rattle.std.specs.Prelude.{◌≡◌, ◌≢◌, ◌≤◌, ◌<◌, ◌+◌, ◌==◌, ◌&&◌, ◌||◌, ◌↔◌, ℕ, suc, true, Bool, List, [], ◌∷◌, ◌++◌, length, drop, if◌then◌else◌}
+use Rattle.std.specs.Prelude.{◌≡◌, ◌≢◌, ◌≤◌, ◌<◌, ◌+◌, ◌-◌, ◌==◌, ◌&&◌, ◌||◌, ◌↔◌, ℕ, suc, true, Bool, List, [], ◌∷◌, ◌++◌, length, drop, if◌then◌else◌}
 use Rattle.std.specs.List.{list_any}
 use Rattle.ft_base.specs.PlainDisk.{BlockWrite, PlainDisk}
 use Rattle.ft_base.specs.Pattern.{pat}
+use Rattle.trace_model.specs.declared.line.Line.TheVariants as line
 use Rattle.trace_model.specs.declared.lost.Looked.{Looked}
 use Rattle.trace_model.specs.declared.ran.Ran.{Ran}
 use Rattle.trace_model.specs.Run.{disk_written, with_blocks, writes_after}
 use Rattle.trace_model.specs.Fits.{armed_after, kept_since_flush}
+use Rattle.trace_model.specs.SoFar.{as_ran}
 
 -- one of these block writes is to the address
 abbrev pub is_written : List BlockWrite → ℕ → Bool
@@ -52,6 +54,10 @@ pub record WasCut (lba count tag cuts : ℕ) (earlier : List Ran) (recent older 
   pub truth : ℕ
   pub within : truth ≤ count + length recent
   pub is : (a : ℕ) → disk a ≡ disk_written (drop truth (with_blocks lba tag count recent) ++ older) a
+
+-- the write line that was cut, when the cut lost this many block writes: its own first, and then earlier ones
+abbrev pub cut_write : ℕ → ℕ → ℕ → ℕ → ℕ → Ran
+cut_write lba count tag cuts lost = as_ran (line.Write lba count tag) cuts (count - lost) (lost - count)
 
 -- ---- found by the first blocks of a request
 

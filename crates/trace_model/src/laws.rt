@@ -2,13 +2,11 @@
 ghost use Rattle.std.specs.Prelude.{◌≡◌, ◌≤◌, ◌-◌, ◌+◌, ◌++◌, ◌∷◌, ℕ, List, drop};
 ghost use Rattle.ft_base.specs.PlainDisk.{BlockWrite, PlainDisk};
 ghost use Rattle.ft_base.specs.declared.told.Ack.TheVariants as ack;
-ghost use Rattle.trace_model.specs.declared.line.Line.TheVariants as line;
 ghost use Rattle.trace_model.specs.declared.lost.Looked.{Looked};
 ghost use Rattle.trace_model.specs.declared.ran.Ran.{Ran};
 ghost use Rattle.trace_model.specs.Fits.{FitsNext};
-ghost use Rattle.trace_model.specs.Lost.{AreLooked, IsFront, IsLeastLost, IsRightBeside, WasCut, first_right};
+ghost use Rattle.trace_model.specs.Lost.{AreLooked, IsFront, IsLeastLost, IsRightBeside, WasCut, cut_write, first_right};
 ghost use Rattle.trace_model.specs.Run.{disk_after, disk_written, with_blocks};
-ghost use Rattle.trace_model.specs.SoFar.{as_ran};
 
 /// Reading back tells the disk exactly, whatever was lost.
 pub fn reading_back_tells_the_disk()
@@ -22,8 +20,8 @@ pub fn reading_back_tells_the_disk()
     // A write line that was cut fits with this number, and the disk is the plain disk after the line.
     ensures line { (lba count tag cuts : ℕ) (earlier : List Ran) (recent older : List BlockWrite) (disk : PlainDisk) (found : ℕ)
         → WasCut lba count tag cuts earlier recent older disk → IsLeastLost (with_blocks lba tag count recent) disk found
-        → FitsNext ack.Flush (as_ran (line.Write lba count tag) cuts (count - found) (found - count)) earlier
-        × ((a : ℕ) → disk a ≡ disk_after (as_ran (line.Write lba count tag) cuts (count - found) (found - count) ∷ earlier) a) }
+        → FitsNext ack.Flush (cut_write lba count tag cuts found) earlier
+        × ((a : ℕ) → disk a ≡ disk_after (cut_write lba count tag cuts found ∷ earlier) a) }
 {}
 
 /// After a cut write line it is enough to read its first blocks, and then the addresses of the writes before it.

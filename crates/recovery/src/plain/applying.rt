@@ -1,10 +1,10 @@
 //! The plain replay: pages from a list, first the checkpoint and then its log, are applied to a map.
-ghost use Rattle.std.specs.Prelude.{◌≡◌, ◌<◌, ◌≤◌, Some, None, Ok, Err, IfOk, MatchOption, option_and_then, if◌then◌else◌};
+ghost use Rattle.std.specs.Prelude.{◌≡◌, ◌<◌, ◌≤◌, Some, None, IfOk, option_and_then, if◌then◌else◌};
 ghost use Rattle.ft_base.specs.Layout.{checkpoint_pages};
 ghost use Rattle.cache_model.specs.Reading.{read_records as records_read, read_page_header as header_read};
 ghost use Rattle.cache_model.specs.Records.{no_entries};
 ghost use Rattle.cache_model.specs.Loading as loading;
-ghost use Rattle.recovery.specs.Plain.{page_listed, place_of, region_pages, complete_of, named};
+ghost use Rattle.recovery.specs.Plain.{IsApplied, after_part, page_listed, place_of, region_pages, complete_of, named};
 
 use crate::plain::pages::{Stamp, header_at, page_at};
 use crate::plain::regions::Sealed;
@@ -41,10 +41,8 @@ pub(crate) fn replay(
     requires map { map.old.geometry ≡ geometry.now }
     requires nothing { map.old.entries ≡ no_entries }
     ensures geometry { map.new.geometry ≡ map.old.geometry }
-    ensures replayed { IfOk result (λ damaged. MatchOption damaged
-        (loading.replayed geometry.now (page_listed geometry.now pages.now) (region, complete_of sealed.now) ≡ Ok map.new.entries)
-        (λ at. loading.replayed geometry.now (page_listed geometry.now pages.now) (region, complete_of sealed.now)
-        ≡ Err (loading.Damaged at))) }
+    ensures replayed { IfOk result (λ damaged. IsApplied damaged map.new.entries
+        (loading.replayed geometry.now (page_listed geometry.now pages.now) (region, complete_of sealed.now))) }
 {
     let maps = Part {
         kind: PageKind::Map,
@@ -89,13 +87,8 @@ fn apply_part(
     requires pages { part.now.pages ≤ region_pages part.now.kind geometry.now }
     requires map { map.old.geometry ≡ geometry.now }
     ensures geometry { map.new.geometry ≡ map.old.geometry }
-    ensures applied { IfOk result (λ damaged. MatchOption damaged
-        (loading.after_pages geometry.now part.now.kind (named part.now.stamp) (place_of part.now.kind geometry.now part.now.region) 0
-        (loading.pages_from (page_listed geometry.now pages.now) (place_of part.now.kind geometry.now part.now.region) 0 part.now.pages)
-        map.old.entries ≡ Ok map.new.entries)
-        (λ at. loading.after_pages geometry.now part.now.kind (named part.now.stamp) (place_of part.now.kind geometry.now part.now.region) 0
-        (loading.pages_from (page_listed geometry.now pages.now) (place_of part.now.kind geometry.now part.now.region) 0 part.now.pages)
-        map.old.entries ≡ Err (loading.Damaged at))) }
+    ensures applied { IfOk result (λ damaged. IsApplied damaged map.new.entries
+        (after_part geometry.now pages.now part.now.kind (named part.now.stamp) part.now.region part.now.pages map.old.entries)) }
 {
     for i in 0..part.pages {
         let at = place_in(geometry, part.kind, part.region, i);

@@ -10,9 +10,9 @@ invariant-loop-sequence g l =
     let old = g.M.Media.state l.fn.media in
     let now = g.M.Media.state l.media in
     record {
-      maps : MapsWritten l.geometry l.target.region l.target.era l.map.records l.sequence old.contents.flash now.contents.flash;
+      maps : MapsWritten l.target.geometry l.target.region l.target.era l.map.records l.sequence old.contents.flash now.contents.flash;
       counts : now.counts ≡ programs_counted l.sequence old.counts;
       drives : DrivesFlash old now false false;
-      room : length l.asked ≡ asked_records l.geometry;
-      asked : IsAskedFor l.geometry l.map.records l.sequence l.asked;
+      room : length l.asked ≡ asked_records l.target.geometry;
+      asked : IsAskedFor l.target.geometry l.map.records l.sequence l.asked;
     }
