@@ -1,5 +1,5 @@
 -- Sets of pages, built up page by page.
-use Rattle.std.proofs.Common.{◌≡◌, ℕ, zero, suc, ◌+◌, ◌-◌, ◌*◌, ◌/◌, ◌^◌, ◌<◌, ◌≤◌, ◌==◌, ◌&&◌, nat_lt, Option, Some, None, inl, inr, ne_eqb, lt-ltb, le-ltb, Bool, true, false, cond, pow-suc, refl, sym, ◌∙◌, ap, arith}
+use Rattle.std.proofs.Common.{◌≡◌, ℕ, zero, suc, ◌+◌, ◌-◌, ◌*◌, ◌/◌, ◌^◌, ◌<◌, ◌≤◌, ◌==◌, ◌&&◌, nat_lt, Option, Some, None, inl, inr, ne_eqb, lt-ltb, le-ltb, Bool, true, false, cond, add-one, pow-suc, refl, sym, ◌∙◌, ap, arith}
 use Rattle.std.specs.Int.{bit_at}
 use Rattle.std.proofs.lemmas.Nat.{div-mul-add}
 use Rattle.std.proofs.lemmas.Nat.Bits.{bit_at-zero, bit_at_above, bit_at_cat_low, bit_at_cat_high}
@@ -32,6 +32,13 @@ set_below test (suc n) =
 pub record SetSoFar (test : ℕ → Bool) (page set : ℕ) : Type 0 where
   pub is : set ≡ set_of test page
   pub below : set < 2 ^ page
+
+-- one page more
+pub set_more : (test : ℕ → Bool) (page set more : ℕ) → SetSoFar test page set → more ≡ set + cond (test page) (2 ^ page) 0 → more < 2 ^ (page + 1) → SetSoFar test (page + 1) more
+set_more test page set more so_far is below = record {
+  is = is ∙ ap (λ n. n + cond (test page) (2 ^ page) 0) so_far.is ∙ sym (ap (set_of test) (add-one page));
+  below = below;
+}
 
 -- ---- the bits of a set
 

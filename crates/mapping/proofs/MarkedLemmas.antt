@@ -12,11 +12,14 @@ use Rattle.cache_model.proofs.MapLemmas.{get_retain}
 use Rattle.cache_model.proofs.CountLemmas.{numbers, taken}
 use Rattle.mapping.specs.declared.marks.Mark.{Mark}
 use Rattle.mapping.specs.declared.marks.Mark.TheVariants.{Dirty}
+use Rattle.mapping.specs.declared.bits.Choice.TheVariants.{Dirty as DirtyPages}
+use Rattle.mapping.specs.Bits.{chosen_of}
 use Rattle.mapping.specs.Counts.{has_mark, dirty_group_count}
 use Rattle.mapping.specs.DirtyGroups.{DirtyCounts, count_of, SetsOnly}
 use Rattle.mapping.specs.Index.{tally}
 use Rattle.mapping.specs.MarkedGroups.{dirty_in, AreDirtyGroups}
 use Rattle.mapping.specs.Seeking.{HasMarkIn}
+use Rattle.mapping.proofs.ChosenLemmas.{chosen_some}
 use Rattle.mapping.proofs.MarksLemmas.{member_from, member_to, some_counted, group_counts}
 use Rattle.mapping.proofs.TallyLemmas.{tally_is, tally_none, tally_few, counted_some, no_groups}
 
@@ -129,6 +132,13 @@ module _ (g : Geometry) (m : Entries) (group : ℕ) where
     λ t. dirty_marked.0 (subst (λ k. 0 < k) is (ltb-true 0 n t)),
     λ x. lt-ltb 0 n (subst (λ k. 0 < k) (sym is) (dirty_marked.1 x)),
   )
+
+  -- then no page of it is in the set of the dirty ones
+  pub no_dirty_pages : dirty_in g m group ≡ 0 → 0 ≡ chosen_of DirtyPages g m group
+  no_dirty_pages none = elim (cases_eq (chosen_of DirtyPages g m group) 0) [
+    | inl empty ↦ sym empty
+    | inr other ↦ absurd (let x = chosen_some g m group DirtyPages other in let some = dirty_marked.1 (x.0, x.3, (x.1, x.2, x.4)) in omega (arith, some, none))
+  ]
 
 -- ---- the counts that are kept
 

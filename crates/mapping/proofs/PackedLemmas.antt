@@ -1,6 +1,6 @@
 -- The entries that two packed maps have at an address, and how a change of the maps changes them.
 use Rattle.std.proofs.Common.{◌≡◌, ℕ, ◌+◌, ◌-◌, ◌*◌, ◌/◌, ◌%◌, ◌<◌, ◌≤◌, ◌==◌, ◌&&◌, Bool, true, false, cond, not, List, [], ◌∷◌, Option, Some, None, option_map}
-use Rattle.std.proofs.Common.{refl, sym, ◌∙◌, ap, ap₂, subst, arith, inl, inr, nat_cmp, eqb-true, eq-eqb, ne_eqb, ◌||◌, is_some, IfSome, IfNone, length, map, nat_lt, lt-ltb, ltb-true, le-ltb, length-append}
+use Rattle.std.proofs.Common.{refl, sym, ◌∙◌, ap, ap₂, subst, arith, inl, inr, nat_cmp, eqb-true, eq-eqb, ne_eqb, ◌||◌, is_some, IfSome, IfNone, IsSome, length, map, nat_lt, lt-ltb, ltb-true, le-ltb, length-append}
 use Rattle.std.specs.Bool.{then_some}
 use Rattle.std.specs.Cmp.{nat_cmp_total}
 use Rattle.std.specs.FinMap.{get, insert, remove, entries, find, get-entries, get-empty, same_map, nat_cmp-IsAntisymmetric}
@@ -23,13 +23,15 @@ use Rattle.block_map.specs.PageSets.{BlockPages, IsSoundBlock, IsLeftWithout, Is
 use Rattle.mapping.specs.MappedPages.{MappedPage}
 use Rattle.mapping.specs.declared.bits.Choice.TheVariants.{Mapped, MappedDirty}
 use Rattle.mapping.specs.Checkpoint.{set_group_of}
-use Rattle.mapping.specs.Bits.{is_chosen, chosen_of, IsDataBlock}
+use Rattle.mapping.specs.Bits.{is_chosen, chosen_of, IsDataBlock, IsBlockOf}
 use Rattle.sparse_map.specs.Slots.{items_of}
 use Rattle.sparse_map.specs.Packed.{PackedTable, map_of, len_of, buckets_of, IsSound as IsSoundTable}
 use Rattle.sparse_map.proofs.MapLemmas.{len_of-items}
 use Rattle.mapping.specs.Packed.{records_of, Pages, Blocks, page_record, block_record, with_data_blocks, with_logs, packed_entries, page_in, AreBlocks, AreDisjoint, IsLeftOut}
 use Rattle.mapping.proofs.Words.{entry_in}
 use Rattle.mapping.proofs.BitsLemmas.{bit_of_set, set_of_none}
+use Rattle.mapping.specs.Counts.{place_if_logged}
+use Rattle.mapping.proofs.ChosenLemmas.{stands_some}
 use Rattle.mapping.proofs.SeekingLemmas.{none_some}
 
 -- ---- options and tests
@@ -53,6 +55,13 @@ is_address p a lba =
     and_of _ _ _
     (λ t. let same : a ≡ lba = eqb-true _ _ t in (eq-eqb _ _ (ap (λ n. n / p) same), eq-eqb _ _ (ap (λ n. n % p) same)))
     (λ t u. let same : a / p ≡ lba / p = eqb-true _ _ t in let same' : a % p ≡ lba % p = eqb-true _ _ u in eq-eqb _ _ (sym whole ∙ ap₂ (λ x y. x * p + y) same same' ∙ whole'))
+
+-- an address that has no mapped page has none to remove
+pub nothing_removed : (pages : Pages) (lba : ℕ) → get pages lba ≡ None → pages ≡ remove pages lba
+nothing_removed pages lba none = same_map nat_cmp_total nat_cmp-IsAntisymmetric pages (remove pages lba) (λ q. elim (cases_eq q lba) [
+  | inl same ↦ ap (get pages) same ∙ none ∙ sym (ap (get (remove pages lba)) same ∙ get_remove pages lba lba ∙ ap (λ b. cond b None (get pages lba)) (eq-eqb lba lba refl))
+  | inr other ↦ sym (get_remove pages lba q ∙ ap (λ b. cond b None (get pages q)) (ne_eqb q lba other))
+])
 
 module _ (g : Geometry) where
   some_pages : 0 < g.p
@@ -456,6 +465,56 @@ module _ (g : Geometry) where
     pub no_data_block : (k : ℕ) → get blocks k ≡ None → chosen_of Mapped g (packed_entries g pages blocks) k ≡ 0
     no_data_block k none = set_of_none (λ i. is_chosen Mapped (get (packed_entries g pages blocks) (k * g.p + i))) g.p (λ i low. mapped_is k i low ∙ ap (λ o. is_chosen Mapped (page_in o i)) none)
 
+    -- a page that the data block has is no mapped page
+    pub not_logged : (k i : ℕ) → i < g.p → (e : Entry) → page_in (get blocks k) i ≡ Some e → get pages (k * g.p + i) ≡ None
+    not_logged k i low e is = by_log (get pages (k * g.p + i)) refl
+      where
+        by_log : (o : Option MappedPage) → get pages (k * g.p + i) ≡ o → o ≡ None
+        by_log None at = refl
+        by_log (Some x) at = none_some e (sym (ap₂ (λ j n. page_in (get blocks j) n) (sym (div-mul-add k g.p i low)) (sym (mod-mul-add k g.p i low)) ∙ apart (k * g.p + i) x at) ∙ is)
+
+    pub not_logged_some : (k i : ℕ) → i < g.p → (o : Option BlockPages) → o ≡ get blocks k → IsSome (page_in o i) → get pages (k * g.p + i) ≡ None
+    not_logged_some k i low o told some = by_page (page_in o i) refl some
+      where
+        by_page : (r : Option Entry) → page_in o i ≡ r → IsSome r → get pages (k * g.p + i) ≡ None
+        by_page None is some = absurd (cc)
+        by_page (Some e) is some = not_logged k i low e (ap (λ x. page_in x i) (sym told) ∙ is)
+
+    -- the entry of a page of the group: the data block's, or else the mapped page's
+    pub page_of_block : (k i : ℕ) → i < g.p → (o : Option BlockPages) → o ≡ get blocks k → (e : Entry) → Some e ≡ page_in o i → Some e ≡ get (packed_entries g pages blocks) (k * g.p + i)
+    page_of_block k i low o told e is =
+        let here : page_in (get blocks k) i ≡ Some e = ap (λ r. page_in r i) (sym told) ∙ sym is in
+        sym here ∙ sym (at_page k i low ∙ ap (λ x. entry_in x (page_in (get blocks k) i)) (not_logged k i low e here))
+
+    pub page_beside_block : (k i : ℕ) → i < g.p → (o : Option BlockPages) → o ≡ get blocks k → None ≡ page_in o i → (x : Option MappedPage) → x ≡ get pages (k * g.p + i) → entry_in x None ≡ get (packed_entries g pages blocks) (k * g.p + i)
+    page_beside_block k i low o told none x at = ap₂ (λ y r. entry_in y r) at (none ∙ ap (λ r. page_in r i) told) ∙ sym (at_page k i low)
+
+    -- the data block that the entries tell is the one that is kept
+    pub block_told : (k : ℕ) (o : Option BlockPages) → IsBlockOf g (packed_entries g pages blocks) k o → o ≡ get blocks k
+    block_told k o is_block = by_kept o is_block.some is_block.none (get blocks k) refl
+      where
+        same_pages : (a b : BlockPages) → a.block ≡ b.block → a.present ≡ b.present → a.dirty ≡ b.dirty → a ≡ b
+        same_pages a b x y z = λ t. record { block = x t; present = y t; dirty = z t }
+
+        by_kept : (o : Option BlockPages) → IfSome o (IsDataBlock g (packed_entries g pages blocks) k) → IfNone o (chosen_of Mapped g (packed_entries g pages blocks) k ≡ 0) → (r : Option BlockPages) → get blocks k ≡ r → o ≡ r
+        by_kept None some none None at = refl
+        by_kept None some none (Some b) at = absurd (let is = present_is k b at in let more = (all.sound k b at).some in omega (arith, none, is, more))
+        by_kept (Some a) some none None at = absurd (let is = some.present in let more = some.some in let empty = no_data_block k at in omega (arith, is, more, empty))
+        by_kept (Some a) some none (Some b) at =
+            let own = data_block_is k b at in
+            let x = stands_some g (packed_entries g pages blocks) k b own in
+            ap Some (same_pages a b (sym (some.stands x.0 x.1 x.2 x.4 x.3) ∙ own.stands x.0 x.1 x.2 x.4 x.3) (some.present ∙ sym own.present) (some.dirty ∙ sym own.dirty))
+
+  -- the place and the mark of a mapped page
+  pub logged_is : (x : Option MappedPage) (o : Option BlockPages) (i : ℕ) → option_map (λ (y : MappedPage). (y.place, y.dirty)) x ≡ place_if_logged (entry_in x (page_in o i))
+  logged_is (Some y) o i = refl
+  logged_is None None i = refl
+  logged_is None (Some b) i = by_bit (has_bit b.present i)
+    where
+      by_bit : (c : Bool) → None ≡ place_if_logged (then_some c (record { place = record { block = b.block; page = i }; dirty = has_bit b.dirty i; block_mapped = true }))
+      by_bit true = refl
+      by_bit false = refl
+
   pub block_found : (pages : Pages) (blocks : Blocks) → AreBlocks g blocks → AreDisjoint g pages blocks → (k : ℕ) (o : Option BlockPages) → o ≡ get blocks k → IfSome o (IsDataBlock g (packed_entries g pages blocks) k)
   block_found pages blocks all apart k None is = tt
   block_found pages blocks all apart k (Some b) is = data_block_is pages blocks all apart k b (sym is)
@@ -519,6 +578,14 @@ module _ (g : Geometry) where
       joined true false true l' o is' = sym (ap (λ c. cond c None o) is')
       joined true false false l' o is' = sym (ap (λ c. cond c None o) is')
       joined false e l l' o is' = refl
+
+  -- an address that has no mapped page has none while others are removed
+  pub still_none : (group i : ℕ) (old new : PackedTable MappedPage) (q : ℕ) → PagesGone group old new i → get (map_of old) q ≡ None → get (map_of new) q ≡ None
+  still_none group i old new q so_far none = so_far.gone q ∙ ap (λ o. cond ((q / g.p == group) && nat_lt (q % g.p) i) None o) none ∙ no_choice ((q / g.p == group) && nat_lt (q % g.p) i)
+    where
+      no_choice : (b : Bool) → ◌≡◌ {A = Option MappedPage} (cond b None None) None
+      no_choice true = refl
+      no_choice false = refl
 
   pub all_gone : (group : ℕ) (old new : PackedTable MappedPage) → PagesGone group old new g.p → (q : ℕ) → get (map_of new) q ≡ cond (q / g.p == group) None (get (map_of old) q)
   all_gone group old new so_far q = so_far.gone q ∙ ap (λ c. cond ((q / g.p == group) && c) None (get (map_of old) q)) (lt-ltb _ _ (mod_below q g.p some_pages)) ∙ ap (λ c. cond c None (get (map_of old) q)) (and-true (q / g.p == group))

@@ -1,5 +1,5 @@
 -- The entries without the entries of a range of addresses.
-use Rattle.std.proofs.Common.{◌≡◌, ℕ, zero, suc, ◌+◌, ◌*◌, ◌/◌, ◌%◌, ◌<◌, ◌≤◌, ◌==◌, None, refl, sym, ◌∙◌, ap, subst, arith, inl, inr, ◌⊎◌, add-one, ne_eqb}
+use Rattle.std.proofs.Common.{◌≡◌, ℕ, zero, suc, ◌+◌, ◌-◌, ◌*◌, ◌/◌, ◌%◌, ◌<◌, ◌≤◌, ◌==◌, Option, None, refl, sym, ◌∙◌, ap, subst, arith, inl, inr, ◌⊎◌, add-one, ne_eqb}
 use Rattle.std.specs.Cmp.{nat_cmp_total}
 use Rattle.std.specs.FinMap.{get, remove, same_map, nat_cmp-IsAntisymmetric}
 use Rattle.std.proofs.lemmas.Bool.{cases_eq, cases_lt, cond-false}
@@ -7,13 +7,16 @@ use Rattle.std.proofs.lemmas.Nat.{div-add-mod', mod_below}
 use Rattle.ft_base.specs.declared.geometry.Geometry.{Geometry}
 use Rattle.ft_base.specs.declared.record.Record.{Record}
 use Rattle.ft_base.specs.declared.record.Record.TheVariants.{SetPage, Remove, Clean, SetGroup, RemoveGroup}
+use Rattle.cache_model.specs.declared.entry.Entry.{Entry}
 use Rattle.cache_model.specs.Records.{Entries, after}
 use Rattle.cache_model.proofs.Words.{after_at}
 use Rattle.cache_model.specs.Entries.{IsMap}
 use Rattle.cache_model.proofs.StepLemmas.{get-after}
 use Rattle.mapping.specs.declared.index.Index.{Index}
 use Rattle.mapping.specs.Index.{IsIndex, without_range}
-use Rattle.mapping.specs.Ranges.{first_of, count_of, group_of}
+use Rattle.mapping.specs.declared.ranges.Span.{Span}
+use Rattle.mapping.specs.Ranges.{first_of, count_of, group_of, start_of, IsSpanOf}
+use Rattle.mapping.proofs.CountsLemmas.{div_mono}
 use Rattle.mapping.proofs.TallyLemmas.{not_there, others_there, absent_same, without_map}
 
 abbrev pub IsOutside : ℕ → ℕ → ℕ → Type 0
@@ -56,6 +59,38 @@ last_there g m first n index all = subst (λ (x : Entries). IsIndex g x index) (
 
 pub last_absent : (g : Geometry) (m : Entries) (first n : ℕ) (index : Index) → get m (first + n) ≡ None → IsIndex g (without_range m first (n + 1)) index → IsIndex g (without_range m first n) index
 last_absent g m first n index none all = subst (λ (x : Entries). IsIndex g x index) (sym (one_more m first n) ∙ absent_same (without_range m first n) (first + n) (next_there m first n ∙ none)) all
+
+-- the entry of a page of a group, by its address
+pub there : (h g : Geometry) (m : Entries) (span : Span) (n : ℕ) (o : Option Entry) → h ≡ g → o ≡ get m (span.group * h.p + (span.first + n)) → o ≡ get m (start_of g span + n)
+there h g m span n o same is = is ∙ ap (λ (x : Geometry). get m (span.group * x.p + (span.first + n))) same ∙ ap (get m) (turned (span.group * g.p) span.first n)
+  where
+    turned : (a b c : ℕ) → a + (b + c) ≡ a + b + c
+    turned a b c = omega arith
+
+-- the pages that a change of an address, and one of a group, concern
+pub page_is : (g : Geometry) (change : Record) (lba : ℕ) (span : Span) → group_of g change ≡ lba / g.p → first_of g change ≡ lba → count_of g change ≡ 1 → lba < g.size
+    → span.group ≡ lba / g.p → start_of g span ≡ lba → span.count ≡ 1 → span.first < g.p → IsSpanOf g change span
+page_is g change lba span of_group of_first of_count low group first count within = record {
+  group = group ∙ sym of_group;
+  first = first ∙ sym of_first;
+  count = count ∙ sym of_count;
+  inside = record {
+    reach = subst (λ n. n ≤ (g.size - 1) / g.p) (sym group) (div_mono lba (g.size - 1) g.p (omega (arith, g.in_range.p_low)) (omega (arith, low)));
+    within = omega (arith, count, within);
+  };
+}
+
+pub pages_are : (g : Geometry) (change : Record) (group : ℕ) (span : Span) → group_of g change ≡ group → first_of g change ≡ group * g.p → count_of g change ≡ g.p → group ≤ (g.size - 1) / g.p
+    → span ≡ record { group = group; first = 0; count = g.p } → IsSpanOf g change span
+pages_are g change group span of_group of_first of_count reach is = subst (λ (s : Span). IsSpanOf g change s) (sym is) (record {
+  group = sym of_group;
+  first = no_more (group * g.p) ∙ sym of_first;
+  count = sym of_count;
+  inside = record { reach = reach; within = omega arith };
+})
+  where
+    no_more : (n : ℕ) → n + 0 ≡ n
+    no_more n = omega arith
 
 -- maps that are alike outside of a range
 pub same_without : (m n : Entries) (first k : ℕ) → ((q : ℕ) → IsOutside first k q → get m q ≡ get n q) → without_range m first k ≡ without_range n first k

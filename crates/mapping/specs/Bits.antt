@@ -1,5 +1,5 @@
 -- Sets of pages of a group, as numbers: the bit of value 2^i for page i.
-use Rattle.std.specs.Prelude.{◌≡◌, ℕ, zero, suc, ◌+◌, ◌*◌, ◌/◌, ◌^◌, ◌<◌, ◌&&◌, Bool, true, false, if◌then◌else◌, Option, None, Some}
+use Rattle.std.specs.Prelude.{◌≡◌, ℕ, zero, suc, ◌+◌, ◌*◌, ◌/◌, ◌^◌, ◌<◌, ◌&&◌, Bool, true, false, if◌then◌else◌, Option, None, Some, IfSome, IfNone}
 use Rattle.std.specs.FinMap.{get}
 use Rattle.ft_base.specs.declared.geometry.Geometry.{Geometry}
 use Rattle.cache_model.specs.declared.entry.Entry.{Entry}
@@ -35,3 +35,8 @@ pub record IsDataBlock (g : Geometry) (m : Entries) (group : ℕ) (pages : Block
   pub present : pages.present ≡ chosen_of Mapped g m group
   pub dirty : pages.dirty ≡ chosen_of MappedDirty g m group
   pub some : 0 < pages.present
+
+-- the data block of the group, or none if it has none
+pub record IsBlockOf (g : Geometry) (m : Entries) (group : ℕ) (block : Option BlockPages) : Type 0 where
+  pub some : IfSome block (IsDataBlock g m group)
+  pub none : IfNone block (chosen_of Mapped g m group ≡ 0)

@@ -1,5 +1,5 @@
 -- Counts and selections of the entries of a map.
-use Rattle.std.specs.Prelude.{◌≡◌, ℕ, Bool, length, filter, count_by, Some}
+use Rattle.std.specs.Prelude.{◌≡◌, ℕ, Bool, length, filter, count_by, Option, None, Some, if◌then◌else◌}
 use Rattle.std.specs.FinMap.{get, entries}
 use Rattle.ft_base.specs.declared.geometry.Geometry.{Geometry}
 use Rattle.ft_base.specs.declared.block.Place.{Place}
@@ -37,3 +37,8 @@ Owns m at a = (e : Entry) × (get m a ≡ Some e) × (e.place ≡ at)
 -- the place and the mark that are known of a held address
 abbrev pub place_and_mark : Entry → Place × Bool
 place_and_mark e = (e.place, e.dirty)
+
+-- the same of an address in a log block, and of no other
+abbrev pub place_if_logged : Option Entry → Option (Place × Bool)
+place_if_logged None = None
+place_if_logged (Some e) = if e.block_mapped then None else Some (place_and_mark e)

@@ -1,8 +1,9 @@
 -- Which addresses, and which group, a record changes.
-use Rattle.std.specs.Prelude.{ℕ, ◌*◌, ◌/◌}
+use Rattle.std.specs.Prelude.{◌≡◌, ◌≤◌, ℕ, ◌+◌, ◌-◌, ◌*◌, ◌/◌}
 use Rattle.ft_base.specs.declared.geometry.Geometry.{Geometry}
 use Rattle.ft_base.specs.declared.record.Record.{Record}
 use Rattle.ft_base.specs.declared.record.Record.TheVariants.{SetPage, Remove, Clean, SetGroup, RemoveGroup}
+use Rattle.mapping.specs.declared.ranges.Span.{Span}
 
 -- the first address that a record changes
 abbrev pub first_of : Geometry → Record → ℕ
@@ -27,3 +28,19 @@ group_of g (Remove lba) = lba / g.p
 group_of g (Clean lba) = lba / g.p
 group_of g (SetGroup group block present dirty) = group
 group_of g (RemoveGroup group) = group
+
+-- the pages are pages of one group of the volume
+pub record AreInGroup (g : Geometry) (span : Span) : Type 0 where
+  pub reach : span.group ≤ (g.size - 1) / g.p
+  pub within : span.first + span.count ≤ g.p
+
+-- the first of their addresses
+abbrev pub start_of : Geometry → Span → ℕ
+start_of g span = span.group * g.p + span.first
+
+-- the pages are those that the record changes
+pub record IsSpanOf (g : Geometry) (change : Record) (span : Span) : Type 0 where
+  pub group : span.group ≡ group_of g change
+  pub first : start_of g span ≡ first_of g change
+  pub count : span.count ≡ count_of g change
+  pub inside : AreInGroup g span

@@ -1,20 +1,22 @@
 //! The entries in two packed maps: log blocks' entries by address, and data blocks by group.
-ghost use Rattle.std.specs.Prelude.{◌≡◌, ◌<◌, ◌≤◌, ◌+◌, ◌-◌, ◌*◌, ◌/◌, ◌%◌, ◌^◌, ◌==◌, ℕ, None, false, length, max, IfSome, IfNone, OnOk, OnErr, if◌then◌else◌};
+ghost use Rattle.std.specs.Prelude.{◌≡◌, ◌<◌, ◌≤◌, ◌+◌, ◌-◌, ◌*◌, ◌/◌, ◌%◌, ◌^◌, ◌==◌, ℕ, None, false, length, max, IfSome, IfNone, IsSome, OnOk, OnErr, if◌then◌else◌};
 ghost use Rattle.std.specs.FinMap as map;
-ghost use Rattle.cache_model.specs.Records.{no_entries, after, has_bit};
+ghost use Rattle.cache_model.specs.Records.{no_entries, after, has_bit, in_log_block};
 ghost use Rattle.ft_base.specs.declared.record.Record.TheVariants.{SetPage, Remove, Clean, SetGroup, RemoveGroup};
 ghost use Rattle.block_map.specs.PageSets.{IsSoundBlock};
 ghost use Rattle.sparse_map.specs.Packed.{map_of, buckets_of, IsSound};
 ghost use Rattle.mapping.specs.declared.bits.Choice.TheVariants.{Mapped};
-ghost use Rattle.mapping.specs.Bits.{chosen_of, IsDataBlock};
+ghost use Rattle.mapping.specs.Bits.{chosen_of, IsDataBlock, IsBlockOf};
 ghost use Rattle.mapping.specs.Checkpoint.{IsCheckpointOf, HasWindow};
 ghost use Rattle.mapping.specs.Room.{LogsGrew, BlocksGrew, KeepsTables, KeepsReserved};
 ghost use Rattle.cache_model.specs.Buckets.{AreBucketsFor};
+ghost use Rattle.mapping.specs.Counts.{place_if_logged};
 ghost use Rattle.mapping.specs.Packed.{page_in, IsLeftOut};
 
 use crate::checkpoint::{offer_all_blocks, offer_all_pages};
 use crate::page_at::PageAt;
 use block_map::BlockAt;
+use block_map::page_set::PAGES;
 use cache_model::Entry;
 use ft_base::{Geometry, Place, Record};
 use sparse_map::SparseMap;
@@ -76,12 +78,34 @@ impl Held {
         ensures { result ≡ map.get self.now.entries lba }
     {
         match mapped_page(&self.pages, lba) {
-            Some(page) => Some(Entry {
-                place: page.place(),
-                dirty: page.is_dirty(),
-                block_mapped: false,
-            }),
+            Some(page) => Some(log_entry(&page)),
             None => entry_in_block(&self.geometry, &self.blocks, lba),
+        }
+    }
+
+    /// The page and the mark of an address in a log block. `None` if the address isn't held, or stands in a data block.
+    pub fn logged(&self, lba: u64) -> Option<(Place, bool)>
+        ensures { result ≡ place_if_logged (map.get self.now.entries lba) }
+    {
+        match mapped_page(&self.pages, lba) {
+            Some(page) => Some((page.place(), page.is_dirty())),
+            None => None,
+        }
+    }
+
+    /// The entry of a page of a group, whose data block is given. Only a page that the block lacks is looked up.
+    pub fn entry_beside(&self, block: &Option<BlockAt>, group: u64, page: u32) -> Option<Entry>
+        requires group { group ≤ (self.now.geometry.size - 1) / self.now.geometry.p }
+        requires page { page < self.now.geometry.p }
+        requires block { IsBlockOf self.now.geometry self.now.entries group block.now }
+        ensures { result ≡ map.get self.now.entries (group * self.now.geometry.p + page) }
+    {
+        match entry_in(block, page) {
+            Some(entry) => Some(entry),
+            None => match mapped_page(&self.pages, group * self.geometry.p as u64 + page as u64) {
+                Some(at) => Some(log_entry(&at)),
+                None => None,
+            },
         }
     }
 
@@ -190,8 +214,8 @@ impl Held {
         ensures room { KeepsReserved self.old self.new }
         ensures entries { self.new.entries ≡ after self.old.geometry (RemoveGroup group) self.old.entries }
     {
-        remove_pages(&mut self.pages, &self.geometry, group);
-        let _ = self.blocks.remove(group);
+        let block = self.blocks.remove(group);
+        remove_pages(&mut self.pages, &self.geometry, group, &block);
     }
 
     /// The buckets of the mapped pages: none, or a power of two that is at least 32. At least a quarter of them is
@@ -230,6 +254,17 @@ fn mapped_page(pages: &SparseMap<PageAt>, lba: u64) -> Option<PageAt>
     }
 }
 
+/// The entry of an address that stands in a mapped page.
+fn log_entry(page: &PageAt) -> Entry
+    ensures { result ≡ in_log_block page.now.place page.now.dirty }
+{
+    Entry {
+        place: page.place(),
+        dirty: page.is_dirty(),
+        block_mapped: false,
+    }
+}
+
 /// The data block of a group.
 fn block_at(blocks: &SparseMap<BlockAt>, group: u64) -> Option<BlockAt>
     ensures { result ≡ map.get (map_of blocks.now) group }
@@ -240,24 +275,30 @@ fn block_at(blocks: &SparseMap<BlockAt>, group: u64) -> Option<BlockAt>
     }
 }
 
+/// The entry of a page of a data block.
+fn entry_in(block: &Option<BlockAt>, page: u32) -> Option<Entry>
+    requires { page < PAGES }
+    ensures { result ≡ page_in block.now page }
+{
+    match block {
+        Some(found) if found.has(page) => Some(Entry {
+            place: Place {
+                block: found.block(),
+                page,
+            },
+            dirty: found.is_dirty(page),
+            block_mapped: true,
+        }),
+        _ => None,
+    }
+}
+
 /// The entry of an address in the data block of its group.
 fn entry_in_block(geometry: &Geometry, blocks: &SparseMap<BlockAt>, lba: u64) -> Option<Entry>
     ensures { result ≡ page_in (map.get (map_of blocks.now) (lba / geometry.now.p)) (lba % geometry.now.p) }
 {
     let pages = geometry.p as u64;
-    let found = block_at(blocks, lba / pages)?;
-    let page = (lba % pages) as u32;
-    if !found.has(page) {
-        return None;
-    }
-    Some(Entry {
-        place: Place {
-            block: found.block(),
-            page,
-        },
-        dirty: found.is_dirty(page),
-        block_mapped: true,
-    })
+    entry_in(&block_at(blocks, lba / pages), (lba % pages) as u32)
 }
 
 /// Leaves a page out of the data block of a group.
@@ -282,8 +323,32 @@ fn take_out(geometry: &Geometry, blocks: &mut SparseMap<BlockAt>, group: u64, pa
     }
 }
 
-/// Takes out the mapped pages of a group.
-fn remove_pages(pages: &mut SparseMap<PageAt>, geometry: &Geometry, group: u64)
+/// Takes out the mapped page of an address. It has none if the data block of its group has its page.
+fn remove_beside(pages: &mut SparseMap<PageAt>, lba: u64, block: &Option<BlockAt>, page: u32)
+    requires page { page < PAGES }
+    requires apart { IsSome (page_in block.now page) → map.get (map_of pages.old) lba ≡ None }
+    requires sound { IsSound pages.old }
+    ensures map { map_of pages.new ≡ map.remove (map_of pages.old) lba }
+    ensures spare { pages.new.spare ≡ pages.old.spare }
+    ensures buckets { buckets_of pages.new ≡ buckets_of pages.old }
+    ensures sound { IsSound pages.new }
+{
+    match entry_in(block, page) {
+        Some(_) => {}
+        None => {
+            let _ = pages.remove(lba);
+        }
+    }
+}
+
+/// Takes out the mapped pages of a group, which has this data block. A page of the block has no mapped page beside it.
+fn remove_pages(
+    pages: &mut SparseMap<PageAt>,
+    geometry: &Geometry,
+    group: u64,
+    block: &Option<BlockAt>,
+)
+    requires apart { (i : ℕ) → i < geometry.now.p → IsSome (page_in block.now i) → map.get (map_of pages.old) (group * geometry.now.p + i) ≡ None }
     requires group { group ≤ (geometry.now.size - 1) / geometry.now.p }
     requires sound { IsSound pages.old }
     ensures pages { (q : ℕ) → map.get (map_of pages.new) q ≡ (if q / geometry.now.p == group then None else map.get (map_of pages.old) q) }
@@ -292,6 +357,6 @@ fn remove_pages(pages: &mut SparseMap<PageAt>, geometry: &Geometry, group: u64)
     ensures sound { IsSound pages.new }
 {
     for page in 0..geometry.p {
-        let _ = pages.remove(group * geometry.p as u64 + page as u64);
+        remove_beside(pages, group * geometry.p as u64 + page as u64, block, page);
     }
 }

@@ -28,3 +28,4 @@ mod sets;
 mod steps;
 
 pub use map::Map;
+pub use sets::PageSets;

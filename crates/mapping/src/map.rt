@@ -4,7 +4,7 @@ ghost use Rattle.std.specs.FinMap.{get};
 ghost use Rattle.cache_model.specs.Records.{no_entries, after};
 ghost use Rattle.cache_model.specs.Entries.{Fits, IsMap, blocks_with, page_mapped};
 ghost use Rattle.mapping.specs.MapValue.{pages_taken, groups_taken};
-ghost use Rattle.mapping.specs.Counts.{held_count, dirty_count, dirty_group_count, data_block_count, Owns, place_and_mark};
+ghost use Rattle.mapping.specs.Counts.{held_count, dirty_count, dirty_group_count, data_block_count, Owns, place_and_mark, place_if_logged};
 ghost use Rattle.mapping.specs.declared.bits.Choice.TheVariants.{Held as held_choice, Dirty, Mapped};
 ghost use Rattle.mapping.specs.Checkpoint.{IsCheckpointOf};
 ghost use Rattle.mapping.specs.Candidates.{AreCandidates};
@@ -21,9 +21,9 @@ use crate::held::Held;
 use crate::index::Index;
 use crate::marks::{MarkedGroups, recount, recount_dirty};
 use crate::numbers::{pool_pages, pool_place};
-use crate::ranges::{change_entries, group_of};
+use crate::ranges::{change_entries, span_of};
 use crate::seeking::{Sought, found_in};
-use crate::sets::chosen_any;
+use crate::sets::{PageSets, chosen_any, page_sets};
 use block_map::BlockAt;
 use block_map::page_set::PageSet;
 use ft_base::{Geometry, Place, Record};
@@ -95,6 +95,14 @@ impl Map {
             Some(entry) => Some((entry.place, entry.dirty)),
             None => None,
         }
+    }
+
+    /// The page of an address in a log block, and whether it is dirty. `None` if the address isn't held, or stands in
+    /// the data block of its group. It costs one look-up, for a caller that has the data block in hand.
+    pub fn logged_place(&self, lba: u64) -> Option<(Place, bool)>
+        ensures { result ≡ place_if_logged (get self.now.entries lba) }
+    {
+        self.held.logged(lba)
     }
 
     /// How many numbers the entries have, from 0 on: one for each page of the pool.
@@ -224,15 +232,21 @@ impl Map {
         ensures group_buckets { self.new.group_buckets ≡ self.old.group_buckets }
     {
         let geometry = self.geometry;
-        let group = group_of(&geometry, change);
+        let span = span_of(&geometry, change);
         let all_dirty = self.index.dirty;
-        let before = self.held.block_of(group);
-        change_entries(&mut self.held, &mut self.index, &geometry, change);
-        let now = self.held.block_of(group);
+        let before = self.held.block_of(span.group);
+        let now = change_entries(
+            &mut self.held,
+            &mut self.index,
+            &geometry,
+            change,
+            &before,
+            span,
+        );
         // The change concerns this group alone. So its count changes as the count of all does.
-        let count = self.marked.dirty.count(group);
+        let count = self.marked.dirty.count(span.group);
         let dirty = recount_dirty(count, all_dirty, self.index.dirty);
-        self.marked.dirty.set(group, dirty);
+        self.marked.dirty.set(span.group, dirty);
         self.marked.data_blocks = recount(self.marked.data_blocks, before.is_some(), now.is_some());
         self.candidates.note(&geometry, before, now, dirty > 0);
         self.spare_pages -= taken_pages(change);
@@ -299,7 +313,18 @@ impl Map {
     pub fn dirty_bits(&self, group: u64) -> PageSet
         ensures { result ≡ chosen_of Dirty self.now.geometry self.now.entries group }
     {
+        if self.marked.dirty.count(group) == 0 {
+            return 0;
+        }
         chosen_any(&self.held, &self.geometry, Choice::Dirty, group)
+    }
+
+    /// The held and the dirty pages of a group, in one walk over its pages.
+    pub fn page_sets(&self, group: u64) -> PageSets
+        ensures held { result.held ≡ chosen_of held_choice self.now.geometry self.now.entries group }
+        ensures dirty { result.dirty ≡ chosen_of Dirty self.now.geometry self.now.entries group }
+    {
+        page_sets(&self.held, &self.geometry, group)
     }
 
     /// How many records a checkpoint of this map has: one for each group with a data block, and one for

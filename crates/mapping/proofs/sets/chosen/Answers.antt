@@ -1,17 +1,21 @@
-use Rattle.std.proofs.Common.{◌≡◌, ℕ, suc, ◌+◌, ◌*◌, ◌%◌, ◌^◌, ◌<◌, ◌≤◌, refl, arith, rules}
-use Rattle.std.proofs.Math.Nat.{mod-le, pow-suc, pow-le-pow_right}
+use Rattle.std.proofs.Common.{◌≡◌, ◌+◌, ◌*◌, ◌/◌, ◌-◌, ◌^◌, ◌<◌, ◌≤◌, cond, ap, subst, sym, ◌∙◌}
+use Rattle.std.specs.FinMap.{get}
+use Rattle.ft_base.specs.declared.geometry.Geometry.{Geometry}
+use Rattle.mapping.specs.Bits.{is_chosen}
+use Rattle.mapping.proofs.BitsLemmas.{set_more}
 use Rattle.mapping.proofs.sets.chosen.Goals as goal
 
--- a set of pages before this one, with this one, fits a word
-one_more : (set page p n limit : ℕ) → set < 2 ^ page → page < p → p ≤ n → 2 ^ n ≡ limit → set + 1 * 2 ^ page % limit < limit
-one_more set page p n limit below within few is =
-    let least : 1 * 2 ^ page % limit ≤ 1 * 2 ^ page = mod-le (1 * 2 ^ page) limit in
-    let next : 2 ^ suc page ≤ 2 ^ n = pow-le-pow_right (omega arith) (omega (arith, within, few)) in
-    let twice : 2 ^ suc page ≡ 2 ^ page * 2 = pow-suc 2 page in
-    omega (arith, least, next, twice, below, is)
+pub entry_beside-entry-requires-clause-group : goal.entry_beside-entry-requires-clause-group
+entry_beside-entry-requires-clause-group c = subst (λ (g : Geometry). c.args.group ≤ (g.size - 1) / g.p) (sym c.requires.geometry) c.requires.group
 
-pub overflow_add-set : goal.overflow_add-set
-overflow_add-set c =
-    let small : c.loop-page.set + 1 * 2 ^ c.loop-page.page % 2 ^ 128 < 2 ^ 128 =
-    one_more c.loop-page.set c.loop-page.page c.args.geometry.now.p 128 (2 ^ 128) c.loop-page.invariant.below c.loop-page-test.true c.args.geometry.now.in_range.p_high refl in
-    search rules
+pub entry_beside-entry-requires-clause-page : goal.entry_beside-entry-requires-clause-page
+entry_beside-entry-requires-clause-page c = subst (λ (g : Geometry). c.loop-page.page < g.p) (sym c.requires.geometry) c.loop-page-test.true
+
+pub with_page-set-requires-clause-below : goal.with_page-set-requires-clause-below
+with_page-set-requires-clause-below c = c.loop-page.invariant.below
+
+pub loop-page-preserved : goal.loop-page-preserved
+loop-page-preserved c = set_more (λ i. is_chosen c.args.choice (get c.args.held.now.entries (c.args.group * c.args.geometry.now.p + i))) c.loop-page.page c.loop-page.set c.with_page-set.result c.loop-page.invariant
+    (c.with_page-set.ensures.set ∙ ap (λ b. c.loop-page.set + cond b (2 ^ c.loop-page.page) 0) (c.is_on.ensures
+    ∙ ap (is_chosen c.args.choice) (c.entry_beside-entry.ensures ∙ ap (λ (g : Geometry). get c.args.held.now.entries (c.args.group * g.p + c.loop-page.page)) c.requires.geometry)))
+    c.with_page-set.ensures.below
