@@ -4,7 +4,6 @@ ghost use Rattle.std.specs.Io.KnownBytes.{Appends, IsAtEnd};
 ghost use Rattle.std.specs.String.{string_bytes};
 ghost use Rattle.ft_base.specs.Count.{Rose};
 ghost use Rattle.ft_media.specs.Passes.{NeverFall};
-ghost use Rattle.ft_volume.specs.Volume.{told_for};
 ghost use Rattle.cache_model.specs.Stands.{ImageStandsFor};
 ghost use Rattle.trace_model.specs.declared.ran.Ran.{Ran};
 ghost use Rattle.trace_replay.specs.AsMade.{IsAsMade};
@@ -13,12 +12,14 @@ ghost use Rattle.trace_replay.specs.Causes.{EndHasCause};
 ghost use Rattle.trace_replay.specs.Forms.{ReadsBy};
 ghost use Rattle.trace_replay.specs.Lent.{KeepsLent};
 ghost use Rattle.cache_run.specs.Begun.{IsUnbegun};
+ghost use Rattle.cache_run.specs.Ends.{told_by};
 ghost use Rattle.cache_run.specs.Costed.{EndsCost, EndsCosted, IsCostOf, cost_text, disk_text, flash_text};
 
 use crate::beginning::{begin_back, begin_through};
+use crate::setup::Setup;
 use ft_base::{Sink, Source, send};
 use ft_media::{Counts, Media, Rig};
-use ft_volume::{Mode, Options, Volume};
+use ft_volume::{Mode, Volume};
 use std::alloc::{AllocError, Global};
 use trace_replay::{Asked, Ended, LineForm, count_form};
 use write_back::WriteBack;
@@ -159,25 +160,22 @@ fn cost_over<F: LineForm, I: Source, O: Sink, R: Rig, V: Volume<R>>(
     }
 }
 
-/// Fits the rig, makes a volume of this mode and these options on it, runs a trace in this form over it without printing
-/// more than a refused line, and then prints what it cost: the blocks that its lines write and read, what the devices
-/// did from the end of the volume's creation to the end of the last line, and how often power was cut. No address is
-/// read at the end. Power may stop within any device write; the run then goes on after recovery.
+/// Fits the rig, makes a volume of this setup on it, runs a trace in this form over it without printing more than a refused
+/// line, and then prints what it cost: the blocks that its lines write and read, what the devices did from the end of the
+/// volume's creation to the end of the last line, and how often power was cut. No address is read at the end. Power may stop within any device write; the run then goes on after recovery.
 ///
 /// It ends as for want of memory also if a number to be printed is above 2^64 - 1.
 pub fn cost_with<F: LineForm, I: Source, O: Sink, R: Rig>(
     alloc: Global,
-    mode: Mode,
-    options: &Options,
+    setup: &Setup,
     source: &mut I,
     sink: &mut O,
     rig: &mut R,
 ) -> Result<(), Ended>
     // It ended before the volume was made, or as a run over it of which the cost is told.
     ensures ends { IsUnbegun result source.old source.new sink.old sink.new (R.state rig.old) (R.state rig.new)
-        ⊎ EndsCosted (told_for mode options.now)
-        (ReadsBy (F.says options.now.geometry.size) (I.state source.old) (I.state source.new)) (O.state sink.old) (O.state sink.new)
-        (ImageStandsFor options.now.geometry) (R.state rig.old) (R.state rig.new) result }
+        ⊎ EndsCosted (told_by setup.now) (ReadsBy (F.says setup.now.options.geometry.size) (I.state source.old) (I.state source.new))
+        (O.state sink.old) (O.state sink.new) (ImageStandsFor setup.now.options.geometry) (R.state rig.old) (R.state rig.new) result }
     ensures end { OnOk result (IsAtEnd (I.state source.new).left) }
     ensures causes { EndHasCause result (I.state source.old) (I.state source.new) (O.state sink.old) (O.state sink.new) (R.state rig.old)
         (R.state rig.new) }
@@ -185,8 +183,8 @@ pub fn cost_with<F: LineForm, I: Source, O: Sink, R: Rig>(
     ensures lent { KeepsLent (I.state source.old) (I.state source.new) (O.state sink.old) (O.state sink.new) (R.state rig.old)
         (R.state rig.new) }
 {
-    match mode {
-        Mode::Back => match begin_back(alloc, rig, options) {
+    match setup.mode {
+        Mode::Back => match begin_back(alloc, rig, &setup.options) {
             Ok(mut volume) => cost_over::<F, I, O, R, WriteBack>(
                 alloc,
                 source,
@@ -196,7 +194,7 @@ pub fn cost_with<F: LineForm, I: Source, O: Sink, R: Rig>(
             ),
             Err(ended) => Err(ended),
         },
-        Mode::Through => match begin_through(alloc, rig, options) {
+        Mode::Through => match begin_through(alloc, rig, &setup.options) {
             Ok(mut volume) => {
                 cost_over::<F, I, O, R, WriteThrough>(alloc, source, sink, rig, &mut volume)
             }

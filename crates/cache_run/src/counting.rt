@@ -2,16 +2,17 @@
 ghost use Rattle.std.specs.Prelude.{◌≡◌, ◌≤◌, ◌<◌, ◌+◌, ◌^◌, ◌⊎◌, All, length, true, IfOk, IfSome, OnErr, IsErrOf};
 ghost use Rattle.ft_base.specs.Count.{Rose, last_count};
 ghost use Rattle.ft_media.specs.Passes.{NeverFall, device_writes};
-ghost use Rattle.ft_volume.specs.Volume.{told_for};
 ghost use Rattle.trace_model.specs.Backs.{IsUncut};
 ghost use Rattle.trace_model.specs.Lines.{IsRunnable};
 ghost use Rattle.trace_replay.specs.AsMade.{IsAsMade};
 ghost use Rattle.cache_run.specs.Counted.{CountsFrom, CountsWrites, RigGoesOn};
+ghost use Rattle.cache_run.specs.Ends.{told_by};
 
 use crate::beginning::{begin_back, begin_through};
+use crate::setup::Setup;
 use ft_base::{Failed, Sink};
 use ft_media::{Counts, Media, Rig};
-use ft_volume::{Mode, Options, Volume};
+use ft_volume::{Mode, Volume};
 use std::alloc::Global;
 use trace_model::Line;
 use trace_replay::{Ended, replay_held};
@@ -84,35 +85,34 @@ fn count_over<R: Rig, V: Volume<R>>(
     }
 }
 
-/// Fits the rig, makes a volume of this mode and these options on it, runs these lines over it without printing,
-/// and says how many device writes they made, from the end of the volume's creation on. None of the lines cuts power.
+/// Fits the rig, makes a volume of this setup on it, runs these lines over it without printing, and says how many device
+/// writes they made, from the end of the volume's creation on. None of the lines cuts power.
 /// Exactly the blocks that such a volume writes to the disk for these lines were written to it.
 ///
 /// It ends as for want of memory also if the rig can count no further.
 pub fn count_lines<R: Rig>(
     alloc: Global,
-    mode: Mode,
-    options: &Options,
+    setup: &Setup,
     lines: &[Line],
     rig: &mut R,
 ) -> Result<u64, Ended>
-    requires lines { All (IsRunnable options.now.geometry.size) lines.now }
+    requires lines { All (IsRunnable setup.now.options.geometry.size) lines.now }
     requires uncut { All IsUncut lines.now }
     requires few { length lines.now < 2 ^ 64 }
-    ensures counted { IfOk result (λ n. CountsWrites (told_for mode options.now) lines.now n (R.state rig.old) (R.state rig.new)) }
+    ensures counted { IfOk result (λ n. CountsWrites (told_by setup.now) lines.now n (R.state rig.old) (R.state rig.new)) }
     ensures flash { IsErrOf result Ended.Flash → Rose (R.state rig.old).faults.flash (R.state rig.new).faults.flash }
     ensures disk { IsErrOf result Ended.Disk → Rose (R.state rig.old).faults.disk (R.state rig.new).faults.disk }
     ensures only { OnErr result (IsErrOf result Ended.Flash ⊎ IsErrOf result Ended.Disk ⊎ IsErrOf result Ended.Memory) }
     ensures on { (IsErrOf result Ended.Memory → ⊥) → (R.state rig.new).power.on ≡ true }
     ensures goes { RigGoesOn (R.state rig.old) (R.state rig.new) }
 {
-    match mode {
+    match setup.mode {
         Mode::Back => {
-            let mut volume = begin_back(alloc, rig, options)?;
+            let mut volume = begin_back(alloc, rig, &setup.options)?;
             count_over(alloc, lines, rig, &mut volume)
         }
         Mode::Through => {
-            let mut volume = begin_through(alloc, rig, options)?;
+            let mut volume = begin_through(alloc, rig, &setup.options)?;
             count_over(alloc, lines, rig, &mut volume)
         }
     }

@@ -1,6 +1,6 @@
 //! Held lines, some first lines and then the lines of a trace. They print what one trace of all these lines prints.
 
-use cache_run::{default_options, replay_lines};
+use cache_run::{Setup, default_options, replay_lines};
 use flashtier_cli::run;
 use ft_base::{MemSink, MemSource, Outcome};
 use ft_volume::Mode;
@@ -25,15 +25,11 @@ fn held_lines_are_printed_as_a_trace_is(rt: HostRuntime) -> Result<(), Fail> {
     ];
     let mut sink = MemSink::new(alloc, 1000, 10, Vec::new(alloc))?;
     let mut rig = MemRig::new(alloc);
-    let ended = replay_lines(
-        alloc,
-        Mode::Back,
-        &default_options(),
-        &first,
-        &lines,
-        &mut sink,
-        &mut rig,
-    );
+    let setup = Setup {
+        mode: Mode::Back,
+        options: default_options(),
+    };
+    let ended = replay_lines(alloc, &setup, &first, &lines, &mut sink, &mut rig);
     assert!(rt; ended.is_ok());
 
     let words = [String::from_str(alloc, "replay")?];

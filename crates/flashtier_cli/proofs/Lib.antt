@@ -1,4 +1,5 @@
 pub mod RunsLemmas
+pub mod SetupLemmas
 pub mod StatusLemmas
 pub mod WordsLemmas
 pub mod ParityLemmas

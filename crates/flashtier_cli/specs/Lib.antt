@@ -1,5 +1,6 @@
 pub mod Ends
 pub mod Over
 pub mod Runs
+pub mod Setup
 pub mod Status
 pub mod Words

@@ -2,7 +2,7 @@
 
 use crate::flash::put_pages;
 use crate::stuck::Stuck;
-use cache_run::replay_with;
+use cache_run::{Setup, replay_with};
 use ft_base::{Geometry, MemSink, MemSource, Page};
 use ft_volume::{Ack, Mode, Options};
 use mem_rig::MemRig;
@@ -76,17 +76,12 @@ fn trace_of(alloc: Global, words: &mut Lcg64Xsh32, lines: u64) -> Result<Vec<u8>
 }
 
 /// The rig after a run of the trace.
-fn rig_after(
-    alloc: Global,
-    mode: Mode,
-    options: &Options,
-    trace: Vec<u8>,
-) -> Result<MemRig, AllocError> {
+fn rig_after(alloc: Global, setup: &Setup, trace: Vec<u8>) -> Result<MemRig, AllocError> {
     let mut source = MemSource::new(trace, 4096, Vec::new(alloc));
     let mut sink = MemSink::new(alloc, 20_000, 4096, Vec::new(alloc))?;
     let mut rig = MemRig::new(alloc);
     // However it ends, it leaves its flash.
-    let _ = replay_with(alloc, mode, options, &mut source, &mut sink, &mut rig);
+    let _ = replay_with(alloc, setup, &mut source, &mut sink, &mut rig);
     rig.turn_on();
     Ok(rig)
 }
@@ -104,7 +99,7 @@ pub(crate) fn left_by(alloc: Global, number: u64) -> Result<Left, Stuck> {
     };
     let lines = 4 + u64::from(words.next_word() % 32);
     let trace = trace_of(alloc, &mut words, lines)?;
-    let mut rig = rig_after(alloc, mode, &options, trace)?;
+    let mut rig = rig_after(alloc, &Setup { mode, options }, trace)?;
     let mut pages = Vec::new(alloc);
     put_pages(&mut rig, &mut pages)?;
     let geometry = options.geometry;

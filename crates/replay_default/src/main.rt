@@ -4,7 +4,7 @@
 //! statuses are the statuses of `replay`.
 #![tactic(auto)]
 
-use cache_run::{default_options, replay_with, status_of};
+use cache_run::{Setup, default_options, replay_with, status_of};
 use ft_base::{StdSink, StdSource};
 use ft_volume::Mode;
 use mem_rig::MemRig;
@@ -25,13 +25,10 @@ fn main(rt: HostRuntime) -> ExitCode {
     let mut source = StdSource::new(rt.reader());
     let mut sink = StdSink::new(io::writer(&rt));
     let mut rig = MemRig::new(rt.alloc());
-    let ended = replay_with(
-        rt.alloc(),
-        Mode::Back,
-        &default_options(),
-        &mut source,
-        &mut sink,
-        &mut rig,
-    );
+    let setup = Setup {
+        mode: Mode::Back,
+        options: default_options(),
+    };
+    let ended = replay_with(rt.alloc(), &setup, &mut source, &mut sink, &mut rig);
     ExitCode::from(status_of(ended))
 }

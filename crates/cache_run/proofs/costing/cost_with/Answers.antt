@@ -7,11 +7,11 @@ use Rattle.cache_run.proofs.costing.cost_with.Goals as goal
 -- ---- a volume that writes back
 
 pub cost_over-requires-clause-fresh : goal.cost_over-requires-clause-fresh
-cost_over-requires-clause-fresh g c = fresh_new Back c.args.options.now _ c.in-Ok.ensures.new (empty_new c.in-Ok.ensures.new)
+cost_over-requires-clause-fresh g c = fresh_new Back c.args.setup.now.options _ c.in-Ok.ensures.new (empty_new c.in-Ok.ensures.new)
 
 pub returns-in-Ok-clause-ends : goal.returns-in-Ok-clause-ends
 returns-in-Ok-clause-ends g c = inr (
-    costed_new c.args.mode Back c.args.options.now c.in-Back.is c.in-Ok.ensures.new _ c.cost_over.ensures.told
+    costed_new c.args.setup.now.mode Back c.args.setup.now.options c.in-Back.is c.in-Ok.ensures.new _ c.cost_over.ensures.told
     g.F.LineForm.says (g.I.Source.state c.args.source.now) (g.I.Source.state c.cost_over.new.source) (g.O.Sink.state c.args.sink.now) (g.O.Sink.state c.cost_over.new.sink) (g.R.Media.state c.cost_over.new.rig) c.in-Ok.ensures.begins c.cost_over.result c.cost_over.ensures.ends)
 
 pub returns-in-Ok-clause-causes : goal.returns-in-Ok-clause-causes
@@ -29,11 +29,11 @@ returns-in-Err-clause-causes g c = cause_begun c.in-Err.ended _ _ _ _ c.in-Err.e
 -- ---- a volume that writes through
 
 pub cost_over-requires-in-Ok-begin_through-clause-fresh : goal.cost_over-requires-in-Ok-begin_through-clause-fresh
-cost_over-requires-in-Ok-begin_through-clause-fresh g c = fresh_new Through c.args.options.now _ c.in-Ok-begin_through.ensures.new (empty_new c.in-Ok-begin_through.ensures.new)
+cost_over-requires-in-Ok-begin_through-clause-fresh g c = fresh_new Through c.args.setup.now.options _ c.in-Ok-begin_through.ensures.new (empty_new c.in-Ok-begin_through.ensures.new)
 
 pub returns-in-Ok-begin_through-clause-ends : goal.returns-in-Ok-begin_through-clause-ends
 returns-in-Ok-begin_through-clause-ends g c = inr (
-    costed_new c.args.mode Through c.args.options.now c.in-Through.is c.in-Ok-begin_through.ensures.new _ c.cost_over-in-Ok-begin_through.ensures.told
+    costed_new c.args.setup.now.mode Through c.args.setup.now.options c.in-Through.is c.in-Ok-begin_through.ensures.new _ c.cost_over-in-Ok-begin_through.ensures.told
     g.F.LineForm.says (g.I.Source.state c.args.source.now) (g.I.Source.state c.cost_over-in-Ok-begin_through.new.source) (g.O.Sink.state c.args.sink.now) (g.O.Sink.state c.cost_over-in-Ok-begin_through.new.sink) (g.R.Media.state c.cost_over-in-Ok-begin_through.new.rig) c.in-Ok-begin_through.ensures.begins c.cost_over-in-Ok-begin_through.result c.cost_over-in-Ok-begin_through.ensures.ends)
 
 pub returns-in-Ok-begin_through-clause-causes : goal.returns-in-Ok-begin_through-clause-causes

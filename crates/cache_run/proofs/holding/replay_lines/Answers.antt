@@ -7,11 +7,11 @@ use Rattle.cache_run.proofs.holding.replay_lines.Goals as goal
 -- ---- a volume that writes back
 
 pub replay_held-requires-clause-fresh : goal.replay_held-requires-clause-fresh
-replay_held-requires-clause-fresh g c = fresh_new Back c.args.options.now _ c.in-Ok.ensures.new (empty_new c.in-Ok.ensures.new)
+replay_held-requires-clause-fresh g c = fresh_new Back c.args.setup.now.options _ c.in-Ok.ensures.new (empty_new c.in-Ok.ensures.new)
 
 pub returns-in-Ok-clause-ends : goal.returns-in-Ok-clause-ends
 returns-in-Ok-clause-ends g c = inr (
-    ends_made c.args.mode Back c.args.options.now c.in-Back.is c.in-Ok.ensures.new _ c.replay_held.ensures.owner.1 _ _ refl
+    ends_made c.args.setup.now.mode Back c.args.setup.now.options c.in-Back.is c.in-Ok.ensures.new _ c.replay_held.ensures.owner.1 _ _ refl
     (Tells (g.O.Sink.state c.args.sink.now) (g.O.Sink.state c.replay_held.new.sink)) (TellsPart (g.O.Sink.state c.args.sink.now) (g.O.Sink.state c.replay_held.new.sink)) (g.R.Media.state c.replay_held.new.rig) c.replay_held.result c.replay_held.ensures.ends)
 
 pub returns-in-Ok-clause-causes : goal.returns-in-Ok-clause-causes
@@ -32,11 +32,11 @@ returns-in-Err-clause-goes g c = goes_begun _ c.in-Err.ensures.begins
 -- ---- a volume that writes through
 
 pub replay_held-requires-in-Ok-begin_through-clause-fresh : goal.replay_held-requires-in-Ok-begin_through-clause-fresh
-replay_held-requires-in-Ok-begin_through-clause-fresh g c = fresh_new Through c.args.options.now _ c.in-Ok-begin_through.ensures.new (empty_new c.in-Ok-begin_through.ensures.new)
+replay_held-requires-in-Ok-begin_through-clause-fresh g c = fresh_new Through c.args.setup.now.options _ c.in-Ok-begin_through.ensures.new (empty_new c.in-Ok-begin_through.ensures.new)
 
 pub returns-in-Ok-begin_through-clause-ends : goal.returns-in-Ok-begin_through-clause-ends
 returns-in-Ok-begin_through-clause-ends g c = inr (
-    ends_made c.args.mode Through c.args.options.now c.in-Through.is c.in-Ok-begin_through.ensures.new _ c.replay_held-in-Ok-begin_through.ensures.owner.1 _ _ refl
+    ends_made c.args.setup.now.mode Through c.args.setup.now.options c.in-Through.is c.in-Ok-begin_through.ensures.new _ c.replay_held-in-Ok-begin_through.ensures.owner.1 _ _ refl
     (Tells (g.O.Sink.state c.args.sink.now) (g.O.Sink.state c.replay_held-in-Ok-begin_through.new.sink)) (TellsPart (g.O.Sink.state c.args.sink.now) (g.O.Sink.state c.replay_held-in-Ok-begin_through.new.sink)) (g.R.Media.state c.replay_held-in-Ok-begin_through.new.rig) c.replay_held-in-Ok-begin_through.result c.replay_held-in-Ok-begin_through.ensures.ends)
 
 pub returns-in-Ok-begin_through-clause-causes : goal.returns-in-Ok-begin_through-clause-causes

@@ -7,11 +7,11 @@ use Rattle.cache_run.proofs.making.gen_with.Goals as goal
 -- ---- a volume that writes back
 
 pub replay_made-requires-clause-fresh : goal.replay_made-requires-clause-fresh
-replay_made-requires-clause-fresh g c = fresh_new Back c.args.options.now _ c.in-Ok.ensures.new (empty_new c.in-Ok.ensures.new)
+replay_made-requires-clause-fresh g c = fresh_new Back c.args.setup.now.options _ c.in-Ok.ensures.new (empty_new c.in-Ok.ensures.new)
 
 pub returns-in-Ok-clause-ends : goal.returns-in-Ok-clause-ends
 returns-in-Ok-clause-ends g c = inr (
-    ends_made c.args.mode Back c.args.options.now c.in-Back.is c.in-Ok.ensures.new _ c.replay_made.ensures.owner.1 _ _ c.new-made.ensures.lines
+    ends_made c.args.setup.now.mode Back c.args.setup.now.options c.in-Back.is c.in-Ok.ensures.new _ c.replay_made.ensures.owner.1 _ _ c.new-made.ensures.lines
     (TellsEnd (g.O.Sink.state c.args.sink.now) (g.O.Sink.state c.replay_made.new.sink)) (TellsEndPart (g.O.Sink.state c.args.sink.now) (g.O.Sink.state c.replay_made.new.sink)) (g.R.Media.state c.replay_made.new.rig) c.replay_made.result c.replay_made.ensures.ends)
 
 pub returns-in-Ok-clause-causes : goal.returns-in-Ok-clause-causes
@@ -29,11 +29,11 @@ returns-in-Err-clause-causes g c = untraced_begun c.in-Err.ended _ _ _ c.in-Err.
 -- ---- a volume that writes through
 
 pub replay_made-requires-in-Ok-begin_through-clause-fresh : goal.replay_made-requires-in-Ok-begin_through-clause-fresh
-replay_made-requires-in-Ok-begin_through-clause-fresh g c = fresh_new Through c.args.options.now _ c.in-Ok-begin_through.ensures.new (empty_new c.in-Ok-begin_through.ensures.new)
+replay_made-requires-in-Ok-begin_through-clause-fresh g c = fresh_new Through c.args.setup.now.options _ c.in-Ok-begin_through.ensures.new (empty_new c.in-Ok-begin_through.ensures.new)
 
 pub returns-in-Ok-begin_through-clause-ends : goal.returns-in-Ok-begin_through-clause-ends
 returns-in-Ok-begin_through-clause-ends g c = inr (
-    ends_made c.args.mode Through c.args.options.now c.in-Through.is c.in-Ok-begin_through.ensures.new _ c.replay_made-in-Ok-begin_through.ensures.owner.1 _ _ c.new-made.ensures.lines
+    ends_made c.args.setup.now.mode Through c.args.setup.now.options c.in-Through.is c.in-Ok-begin_through.ensures.new _ c.replay_made-in-Ok-begin_through.ensures.owner.1 _ _ c.new-made.ensures.lines
     (TellsEnd (g.O.Sink.state c.args.sink.now) (g.O.Sink.state c.replay_made-in-Ok-begin_through.new.sink)) (TellsEndPart (g.O.Sink.state c.args.sink.now) (g.O.Sink.state c.replay_made-in-Ok-begin_through.new.sink)) (g.R.Media.state c.replay_made-in-Ok-begin_through.new.rig) c.replay_made-in-Ok-begin_through.result c.replay_made-in-Ok-begin_through.ensures.ends)
 
 pub returns-in-Ok-begin_through-clause-causes : goal.returns-in-Ok-begin_through-clause-causes

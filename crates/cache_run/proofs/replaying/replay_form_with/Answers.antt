@@ -6,11 +6,11 @@ use Rattle.cache_run.proofs.replaying.replay_form_with.Goals as goal
 -- ---- a volume that writes back
 
 pub replay_form-requires-clause-fresh : goal.replay_form-requires-clause-fresh
-replay_form-requires-clause-fresh g c = fresh_new Back c.args.options.now _ c.in-Ok.ensures.new (empty_new c.in-Ok.ensures.new)
+replay_form-requires-clause-fresh g c = fresh_new Back c.args.setup.now.options _ c.in-Ok.ensures.new (empty_new c.in-Ok.ensures.new)
 
 pub returns-in-Ok-clause-ends : goal.returns-in-Ok-clause-ends
 returns-in-Ok-clause-ends g c = inr (
-    ends_new c.args.mode Back c.args.options.now c.in-Back.is c.in-Ok.ensures.new _ c.replay_form.ensures.owner.1
+    ends_new c.args.setup.now.mode Back c.args.setup.now.options c.in-Back.is c.in-Ok.ensures.new _ c.replay_form.ensures.owner.1
     g.F.LineForm.says (g.I.Source.state c.args.source.now) (g.I.Source.state c.replay_form.new.source) (g.O.Sink.state c.args.sink.now) (g.O.Sink.state c.replay_form.new.sink) (g.R.Media.state c.replay_form.new.rig) c.replay_form.result c.replay_form.ensures.ends)
 
 pub returns-in-Ok-clause-causes : goal.returns-in-Ok-clause-causes
@@ -28,11 +28,11 @@ returns-in-Err-clause-causes g c = cause_begun c.in-Err.ended _ _ _ _ c.in-Err.e
 -- ---- a volume that writes through
 
 pub replay_form-requires-in-Ok-begin_through-clause-fresh : goal.replay_form-requires-in-Ok-begin_through-clause-fresh
-replay_form-requires-in-Ok-begin_through-clause-fresh g c = fresh_new Through c.args.options.now _ c.in-Ok-begin_through.ensures.new (empty_new c.in-Ok-begin_through.ensures.new)
+replay_form-requires-in-Ok-begin_through-clause-fresh g c = fresh_new Through c.args.setup.now.options _ c.in-Ok-begin_through.ensures.new (empty_new c.in-Ok-begin_through.ensures.new)
 
 pub returns-in-Ok-begin_through-clause-ends : goal.returns-in-Ok-begin_through-clause-ends
 returns-in-Ok-begin_through-clause-ends g c = inr (
-    ends_new c.args.mode Through c.args.options.now c.in-Through.is c.in-Ok-begin_through.ensures.new _ c.replay_form-in-Ok-begin_through.ensures.owner.1
+    ends_new c.args.setup.now.mode Through c.args.setup.now.options c.in-Through.is c.in-Ok-begin_through.ensures.new _ c.replay_form-in-Ok-begin_through.ensures.owner.1
     g.F.LineForm.says (g.I.Source.state c.args.source.now) (g.I.Source.state c.replay_form-in-Ok-begin_through.new.source) (g.O.Sink.state c.args.sink.now) (g.O.Sink.state c.replay_form-in-Ok-begin_through.new.sink) (g.R.Media.state c.replay_form-in-Ok-begin_through.new.rig) c.replay_form-in-Ok-begin_through.result c.replay_form-in-Ok-begin_through.ensures.ends)
 
 pub returns-in-Ok-begin_through-clause-causes : goal.returns-in-Ok-begin_through-clause-causes

@@ -7,14 +7,14 @@ use Rattle.cache_run.proofs.replaying.replay_many_with.Goals as goal
 -- ---- a volume that writes back
 
 pub replay_many-requires-clause-fresh : goal.replay_many-requires-clause-fresh
-replay_many-requires-clause-fresh g c = fresh_new Back c.args.options.now _ c.in-Ok.ensures.new (empty_new c.in-Ok.ensures.new)
+replay_many-requires-clause-fresh g c = fresh_new Back c.args.setup.now.options _ c.in-Ok.ensures.new (empty_new c.in-Ok.ensures.new)
 
 pub replay_many-requires-clause-shared : goal.replay_many-requires-clause-shared
-replay_many-requires-clause-shared g c = subst (λ n. c.args.disks ≤ n) (sym (size_new c.args.mode Back c.args.options.now c.in-Back.is c.in-Ok.ensures.new)) c.requires.shared
+replay_many-requires-clause-shared g c = subst (λ n. c.args.disks ≤ n) (sym (size_new c.args.setup.now.mode Back c.args.setup.now.options c.in-Back.is c.in-Ok.ensures.new)) c.requires.shared
 
 pub returns-in-Ok-clause-ends : goal.returns-in-Ok-clause-ends
 returns-in-Ok-clause-ends g c = inr (
-    ends_over c.args.mode Back c.args.options.now c.in-Back.is c.in-Ok.ensures.new _ c.replay_many.ensures.owner.1 c.args.disks
+    ends_over c.args.setup.now.mode Back c.args.setup.now.options c.in-Back.is c.in-Ok.ensures.new _ c.replay_many.ensures.owner.1 c.args.disks
     (g.I.Source.state c.args.source.now) (g.I.Source.state c.replay_many.new.source) (g.O.Sink.state c.args.sink.now) (g.O.Sink.state c.replay_many.new.sink) (g.R.Media.state c.replay_many.new.rig) c.replay_many.result c.replay_many.ensures.ends)
 
 pub returns-in-Ok-clause-causes : goal.returns-in-Ok-clause-causes
@@ -32,14 +32,14 @@ returns-in-Err-clause-causes g c = cause_begun c.in-Err.ended _ _ _ _ c.in-Err.e
 -- ---- a volume that writes through
 
 pub replay_many-requires-in-Ok-begin_through-clause-fresh : goal.replay_many-requires-in-Ok-begin_through-clause-fresh
-replay_many-requires-in-Ok-begin_through-clause-fresh g c = fresh_new Through c.args.options.now _ c.in-Ok-begin_through.ensures.new (empty_new c.in-Ok-begin_through.ensures.new)
+replay_many-requires-in-Ok-begin_through-clause-fresh g c = fresh_new Through c.args.setup.now.options _ c.in-Ok-begin_through.ensures.new (empty_new c.in-Ok-begin_through.ensures.new)
 
 pub replay_many-requires-in-Ok-begin_through-clause-shared : goal.replay_many-requires-in-Ok-begin_through-clause-shared
-replay_many-requires-in-Ok-begin_through-clause-shared g c = subst (λ n. c.args.disks ≤ n) (sym (size_new c.args.mode Through c.args.options.now c.in-Through.is c.in-Ok-begin_through.ensures.new)) c.requires.shared
+replay_many-requires-in-Ok-begin_through-clause-shared g c = subst (λ n. c.args.disks ≤ n) (sym (size_new c.args.setup.now.mode Through c.args.setup.now.options c.in-Through.is c.in-Ok-begin_through.ensures.new)) c.requires.shared
 
 pub returns-in-Ok-begin_through-clause-ends : goal.returns-in-Ok-begin_through-clause-ends
 returns-in-Ok-begin_through-clause-ends g c = inr (
-    ends_over c.args.mode Through c.args.options.now c.in-Through.is c.in-Ok-begin_through.ensures.new _ c.replay_many-in-Ok-begin_through.ensures.owner.1 c.args.disks
+    ends_over c.args.setup.now.mode Through c.args.setup.now.options c.in-Through.is c.in-Ok-begin_through.ensures.new _ c.replay_many-in-Ok-begin_through.ensures.owner.1 c.args.disks
     (g.I.Source.state c.args.source.now) (g.I.Source.state c.replay_many-in-Ok-begin_through.new.source) (g.O.Sink.state c.args.sink.now) (g.O.Sink.state c.replay_many-in-Ok-begin_through.new.sink) (g.R.Media.state c.replay_many-in-Ok-begin_through.new.rig) c.replay_many-in-Ok-begin_through.result c.replay_many-in-Ok-begin_through.ensures.ends)
 
 pub returns-in-Ok-begin_through-clause-causes : goal.returns-in-Ok-begin_through-clause-causes

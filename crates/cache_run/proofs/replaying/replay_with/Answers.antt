@@ -9,7 +9,7 @@ returns-clause-ends g c =
     elim c.replay_form_with.ensures.ends [
       | inl none ↦ inl none
       | inr ends ↦ inr (
-          ends_from (told_for c.args.mode c.args.options.now) _ _ _ _ _ _ _ _ _
+          ends_from (told_for c.args.setup.now.mode c.args.setup.now.options) _ _ _ _ _ _ _ _ _
           (λ lines all whole known. reads_text _ _ _ lines all whole known)
           (λ run answers says. says)
           (λ y d stood. stood)

@@ -7,7 +7,7 @@ use Rattle.flashtier_cli.proofs.spelled.cost_spelled.Goals as goal
 
 pub returns-in-Lines-clause-ends : goal.returns-in-Lines-clause-ends
 returns-in-Lines-clause-ends g c =
-    let size = c.args.options.now.geometry.size in
+    let size = c.args.setup.now.options.geometry.size in
     let a = g.I.Source.state c.args.source.now in
     let b = g.I.Source.state c.cost_with.new.source in
     elim c.cost_with.ensures.ends [

@@ -1,6 +1,6 @@
 use Rattle.std.proofs.Common.{◌≡◌, ◌<◌, ◌+◌, ℕ, [], ◌∷◌, length, subst, arith}
 use Rattle.cache_model.specs.Stands.{ImageStandsFor}
-use Rattle.ft_volume.specs.Volume.{told_for}
+use Rattle.cache_run.specs.Ends.{told_by}
 use Rattle.trace_sweep.specs.Ends.{BreaksAt}
 use Rattle.trace_sweep.specs.SoFar.{RunsAt}
 use Rattle.trace_sweep.proofs.RunLemmas.{breaks_more, has_more, streams_then}
@@ -11,7 +11,7 @@ runs-preserved g c =
     let so = c.runs.invariant.has in
     let long : length so.0 ≡ c.runs.number = so.1 in
     let next : c.runs.number + 1 ≡ length so.0 + 1 = omega (arith, long) in
-    let at = subst (λ (k : ℕ). RunsAt (told_for c.args.sweep.now.mode c.args.sweep.now.options.now) c.args.sweep.now.outcome c.args.sweep.now.lines.now (g.O.Sink.state c.runs.sink) (g.O.Sink.state c.sweep_at.new.sink) (ImageStandsFor c.args.sweep.now.options.now.geometry) (g.R.Media.state c.runs.rig) (g.R.Media.state c.sweep_at.new.rig) k) next c.in-Ok.ensures.whole in
+    let at = subst (λ (k : ℕ). RunsAt (told_by c.args.sweep.now.setup.now) c.args.sweep.now.outcome c.args.sweep.now.lines.now (g.O.Sink.state c.runs.sink) (g.O.Sink.state c.sweep_at.new.sink) (ImageStandsFor c.args.sweep.now.setup.now.options.geometry) (g.R.Media.state c.runs.rig) (g.R.Media.state c.sweep_at.new.rig) k) next c.in-Ok.ensures.whole in
     record {
       within = omega arith;
       on = c.in-Ok.ensures.on (λ is. cc);
@@ -26,4 +26,4 @@ returns-in-Err-clause-part g c =
     let next : c.runs.number + 1 ≡ length so.0 + 1 = omega (arith, long) in
     let few : length so.0 < c.args.count = omega (arith, long) in
     breaks_more c.args.count _ _ _ _ _ _ so.0 c.in-Err.ended few so.2
-    (subst (λ (k : ℕ). BreaksAt (told_for c.args.sweep.now.mode c.args.sweep.now.options.now) c.args.sweep.now.outcome c.args.sweep.now.lines.now k [] (g.O.Sink.state c.runs.sink) (g.O.Sink.state c.sweep_at.new.sink) (ImageStandsFor c.args.sweep.now.options.now.geometry) (g.R.Media.state c.sweep_at.new.rig) c.in-Err.ended) next c.in-Err.ensures.part)
+    (subst (λ (k : ℕ). BreaksAt (told_by c.args.sweep.now.setup.now) c.args.sweep.now.outcome c.args.sweep.now.lines.now k [] (g.O.Sink.state c.runs.sink) (g.O.Sink.state c.sweep_at.new.sink) (ImageStandsFor c.args.sweep.now.setup.now.options.geometry) (g.R.Media.state c.sweep_at.new.rig) c.in-Err.ended) next c.in-Err.ensures.part)

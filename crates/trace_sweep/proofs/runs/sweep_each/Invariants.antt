@@ -1,6 +1,6 @@
 use Rattle.std.proofs.Common.{◌≡◌, ◌≤◌, ◌-◌, List, length, true}
 use Rattle.cache_model.specs.Stands.{ImageStandsFor}
-use Rattle.ft_volume.specs.Volume.{told_for}
+use Rattle.cache_run.specs.Ends.{told_by}
 use Rattle.trace_replay.specs.Causes.{KeepsStreamsUntraced}
 use Rattle.trace_sweep.specs.Runs.{Swept}
 use Rattle.trace_sweep.specs.SoFar.{HasSwept}
@@ -17,7 +17,7 @@ invariant-runs g l =
       on : now.power.on ≡ true;
       goes : KeepsStreamsUntraced x y old now;
       has : (runs : List Swept) × (length runs ≡ l.number)
-          × HasSwept (told_for l.sweep.mode l.sweep.options.now) l.sweep.outcome l.sweep.lines.now x y (ImageStandsFor l.sweep.options.now.geometry) old now runs;
+          × HasSwept (told_by l.sweep.setup.now) l.sweep.outcome l.sweep.lines.now x y (ImageStandsFor l.sweep.setup.now.options.geometry) old now runs;
     }
 
 abbrev pub decreases-runs : goal.decreases-runs

@@ -5,9 +5,9 @@ use Rattle.trace_sweep.proofs.sweeping.sweep_lines.Goals as goal
 
 pub invariant_of-sweep : goal.invariant_of-sweep
 invariant_of-sweep g c = record {
-  runnable = runnable_lines c.args.options.now.geometry.size c.args.lines.now c.requires.lines;
+  runnable = runnable_lines c.args.setup.now.options.geometry.size c.args.lines.now c.requires.lines;
   few = c.requires.few;
-  unarmed = unarmed_lines c.args.lines.now (uncut_lines c.args.options.now.geometry.size c.args.lines.now c.requires.lines);
+  unarmed = unarmed_lines c.args.lines.now (uncut_lines c.args.setup.now.options.geometry.size c.args.lines.now c.requires.lines);
 }
 
 pub returns-in-Err-clause-ends : goal.returns-in-Err-clause-ends
