@@ -32,14 +32,14 @@ fn run(rt: &(impl Env + AllocGlobal + Clock + Files + Print + Eprint)) -> io::Re
     let words = words_of(rt)?;
     match task_of(words.as_slice()) {
         Some(Task::Hint) => println!(rt; "bench: give the word map, run, sweep or form")?,
-        Some(Task::Map) => map_bench::measure(rt)?,
+        Some(Task::Map) => bench_map::measure(rt)?,
         Some(Task::Sweep) => {
-            return run_bench::measure_sweep(rt, after_first(words.as_slice()));
+            return bench_run::measure_sweep(rt, after_first(words.as_slice()));
         }
         Some(Task::Form) => {
-            return run_bench::measure_forms(rt, after_first(words.as_slice()));
+            return bench_run::measure_forms(rt, after_first(words.as_slice()));
         }
-        Some(Task::Run) => return run_bench::measure(rt, after_first(words.as_slice())),
+        Some(Task::Run) => return bench_run::measure(rt, after_first(words.as_slice())),
         None => {
             eprintln!(rt;
                 "use: bench [map | run [options of gen] | sweep [options of replay] | form [options of replay]]"

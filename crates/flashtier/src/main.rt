@@ -1,7 +1,7 @@
 //! The program: standard input is the trace, standard output takes the text, and flash and disk are in memory.
 #![tactic(auto)]
 
-use flashtier_cli::run_on;
+use flashtier_run::run_on;
 use ft_base::{StdSink, StdSource};
 use mem_rig::MemRig;
 use sealed_media::MemRawRig;

@@ -1,5 +1,0 @@
-use Rattle.std.proofs.Common.{rules}
-use Rattle.cache_rows.proofs.bench.Bench.read.Goals as goal
-
-pub read-requires-clause-up : goal.read-requires-clause-up
-read-requires-clause-up c = c.self.invariant.up (search rules)

@@ -1,5 +1,0 @@
-use Rattle.mem_rig.specs.Rig.{state_of}
-use Rattle.cache_rows.proofs.parts.mark_clean.Goals as goal
-
-pub returns : goal.returns
-returns c = c.note_clean.ensures.agree (state_of c.args.rig.now).contents c.reserve.ensures.agree

@@ -1,5 +1,0 @@
-use Rattle.std.proofs.Common.{codes}
-use Rattle.command_line.proofs.command.inspect_command.Goals as goal
-
-pub returns-in-None-clause-none : goal.returns-in-None-clause-none
-returns-in-None-clause-none c = (rw c.in-None.is at c.in_ok-mode.ensures.none) (codes "inspect")

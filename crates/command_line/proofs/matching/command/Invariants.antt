@@ -1,7 +1,0 @@
-use Rattle.std.proofs.Common.{◌≡◌, map, take}
-use Rattle.clap.specs.Words.{app_of}
-use Rattle.command_line.specs.Matching.{options_app}
-use Rattle.command_line.proofs.matching.command.Given as goal
-
-abbrev pub invariant-loop-name : goal.invariant-loop-name
-invariant-loop-name l = app_of l.command ≡ options_app (map (λ s. s.now) (take l.name-index l.names))

@@ -1,6 +1,0 @@
-use Rattle.sparse_map.specs.Packed.{map_of}
-use Rattle.map_bench.proofs.MapLemmas.{get-removed}
-use Rattle.map_bench.proofs.measured.SparseMapU64Measured.take.Goals as goal
-
-pub returns-clause-content : goal.returns-clause-content
-returns-clause-content c = λ q. get-removed (map_of c.args.self.now) (map_of c.remove.new.self) c.args.key q c.remove.ensures.map

@@ -1,4 +1,0 @@
-use Rattle.open_any.proofs.opened.Opened.scrub.Goals as goal
-
-pub scrub-requires : goal.scrub-requires
-scrub-requires c = record { up = c.self.invariant.up }

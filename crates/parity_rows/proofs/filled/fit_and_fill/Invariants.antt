@@ -1,8 +1,0 @@
-use Rattle.std.proofs.Common.{◌≡◌, Some}
-use Rattle.parity_rows.proofs.filled.fit_and_fill.Given as goal
-
-abbrev pub invariant-loop-page : goal.invariant-loop-page
-invariant-loop-page g l = record {
-  ready : (g.R.Media.state l.rig).contents.flash.next 0 ≡ Some l.page;
-  shape : (g.R.Media.state l.rig).contents.shape ≡ record { blocks = 1; pages = l.pages; size = 1 };
-}

@@ -1,0 +1,19 @@
+use Rattle.std.proofs.Common.{◌∙◌}
+use Rattle.std.specs.FinMap.{get}
+use Rattle.cache_model.specs.Cache.{Written, written_dirty}
+use Rattle.mem_rig.specs.Rig.{state_of}
+use Rattle.test_cache.proofs.UpLemmas.{fit_buffered, in_size}
+use Rattle.test_cache.proofs.bench.Bench.write_later.Goals as goal
+
+pub write_later-answer-requires : goal.write_later-answer-requires
+write_later-answer-requires c = record {
+  up = c.self.invariant.up (c.self.view_is ∙ c.requires.going);
+  lba = in_size c.self.inside.going c.self.inside.cache (state_of c.self.inside.rig).contents c.args.lba c.self.invariant c.requires.lba;
+}
+
+pub invariant_of-self : goal.invariant_of-self
+invariant_of-self c =
+    let e = c.write_later-answer.ensures in
+    fit_buffered c.write_later-answer.result c.self.inside.going c.is_stopped.result c.self.inside.cache c.write_later-answer.new.self (state_of c.self.inside.rig) (state_of c.write_later-answer.new.media)
+    c.args.lba (written_dirty c.args.lba c.block_of-block.result) (λ v. Written c.args.lba (get v c.args.lba)) c.self.invariant (c.self.view_is ∙ c.requires.going) c.is_stopped.ensures
+    e.runs.geometry e.runs.stopped e.done e.refused.full_keeps (λ is. ((e.refused.memory is).2, λ contents s h. (e.refused.memory_holds is contents s h).holds))
