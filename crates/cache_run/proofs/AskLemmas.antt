@@ -9,11 +9,11 @@ use Rattle.ft_volume.specs.Volume.Call.{Reports}
 use Rattle.ft_volume.specs.declared.volume.Report.{Report}
 use Rattle.ft_volume.specs.declared.volume.VolumeError.{VolumeError}
 use Rattle.ft_volume.specs.declared.volume.VolumeError.TheVariants as volume
-use Rattle.trace_replay.specs.Said.{ended_of}
+use Rattle.trace_replay.specs.Said.{NoneFailed, ended_of}
 use Rattle.trace_replay.specs.declared.ended.Ended.{Ended}
 use Rattle.trace_replay.specs.declared.ended.Ended.TheVariants as ended
 use Rattle.cache_run.specs.Inspected.{Asks}
-use Rattle.trace_replay.proofs.CutsLemmas.{counts_none, counts_then}
+use Rattle.trace_replay.proofs.CutsLemmas.{counts_none, counts_then, failed_lost, failed_same}
 
 -- nothing was asked yet
 pub asks_none : (a : State) → a.power.on ≡ true → Asks 0 a a
@@ -135,6 +135,21 @@ module _ (u v : VolumeState) (a b c : State) (same : c ≡ b) where
 
   pub disk_rose : (T : Type 0) (e : VolumeError) (f : Ended) → Goes u v a b (answered e) → f ≡ ended_of e → IsErrOf {T = T} (Err f) ended.Disk → Rose a.faults.disk c.faults.disk
   disk_rose T e f goes ends is = rose_disk e goes (let same_end : f ≡ ended.Disk = cc in sym ends ∙ same_end)
+
+  -- unless it blames a device, none failed
+  none_rose : (e : VolumeError) → e ≢ volume.PowerLost → Goes u v a b (answered e) → (ended_of e ≡ ended.Flash → ⊥) → (ended_of e ≡ ended.Disk → ⊥) → NoneFailed a c
+  none_rose volume.FlashFault other goes flash disk = absurd (flash refl)
+  none_rose volume.DiskFault other goes flash disk = absurd (disk refl)
+  none_rose volume.PowerLost other goes flash disk = absurd (other refl)
+  none_rose volume.OutOfMemory other goes flash disk = subst (λ (s : State). NoneFailed a s) (sym same) (failed_same a b (goes.cause.none refl))
+  none_rose volume.OutOfVolume other goes flash disk = subst (λ (s : State). NoneFailed a s) (sym same) (failed_same a b (goes.cause.none refl))
+
+  pub none_failed_at : (T : Type 0) (e : VolumeError) (f : Ended) → e ≢ volume.PowerLost → Goes u v a b (answered e) → f ≡ ended_of e → (IsErrOf {T = T} (Err f) ended.Flash → ⊥) → (IsErrOf {T = T} (Err f) ended.Disk → ⊥) → NoneFailed a c
+  none_failed_at T e f other goes ends flash disk = none_rose e other goes (λ is. flash (ap Err (ends ∙ is))) (λ is. disk (ap Err (ends ∙ is)))
+
+-- a stop cut it, and power is on again
+pub none_failed_cut : (u v : VolumeState) (a b c : State) → Goes u v a b (answered volume.PowerLost) → c ≡ powered b → NoneFailed a c
+none_failed_cut u v a b c goes is = subst (λ (s : State). NoneFailed a s) (sym is) (failed_lost a (powered b) (goes.cause.power_lost refl) goes.cause.cuts)
 
 -- so the run ended at a device, or for want of memory
 abbrev pub AtDevice : Type 0 → Ended → Type 0

@@ -1,5 +1,5 @@
 -- A run over a new volume, from a run over any volume.
-use Rattle.std.proofs.Common.{◌≡◌, ◌≢◌, ◌⊎◌, inl, inr, ◌≤◌, ◌+◌, ◌&&◌, nat_le, nat_lt, ℕ, Bool, true, false, List, [], map, filter, Option, Result, Err, IsErrOf, refl, sym, ap, ◌∙◌, subst, arith}
+use Rattle.std.proofs.Common.{◌≡◌, ◌≢◌, ◌⊎◌, inl, inr, ◌≤◌, ◌+◌, ◌&&◌, nat_le, nat_lt, ℕ, Bool, true, false, List, [], map, filter, Option, Result, Ok, Err, IsErrOf, refl, sym, ap, ◌∙◌, subst, arith}
 use Rattle.std.proofs.lemmas.List.{nil_from_length}
 use Rattle.std.specs.FinMap.{entries, get-empty, len-empty, len-entries}
 use Rattle.std.specs.Option.{is_some}
@@ -15,8 +15,8 @@ use Rattle.cache_model.specs.Cache.{dirty_between}
 use Rattle.cache_model.specs.CacheList.{Held}
 use Rattle.cache_model.specs.Stands.{ImageStandsFor}
 use Rattle.ft_media.specs.Fitted.{KeepsReady}
-use Rattle.ft_media.specs.Passes.{Passes}
-use Rattle.ft_media.specs.State.{State}
+use Rattle.ft_media.specs.Passes.{NeverFall, Passes}
+use Rattle.ft_media.specs.State.{Faults, State}
 use Rattle.ft_volume.proofs.MediaLemmas.{image_stands}
 use Rattle.ft_volume.specs.Opening.{ImageIs, IsNewestOnDisk, IsOpened, nothing_held}
 use Rattle.ft_volume.specs.Volume.{VolumeState, told_for}
@@ -26,7 +26,7 @@ use Rattle.trace_model.specs.declared.answer.Answer.{Answer}
 use Rattle.trace_model.specs.declared.line.Line.{Line}
 use Rattle.trace_model.specs.declared.ran.Ran.{Ran}
 use Rattle.trace_model.specs.Readings.{Reading}
-use Rattle.trace_replay.proofs.CutsLemmas.{counts_then}
+use Rattle.trace_replay.proofs.CutsLemmas.{counts_then, failed_same, failed_then}
 use Rattle.trace_replay.proofs.FromLemmas.{ends_from}
 use Rattle.trace_replay.specs.Before.{IsBefore}
 use Rattle.trace_replay.specs.Causes.{EndHasCause, EndHasCauseUntraced, KeepsLentUntraced, KeepsStreamsUntraced}
@@ -34,7 +34,7 @@ use Rattle.trace_replay.specs.Forms.{Form, ReadsBy}
 use Rattle.trace_replay.specs.Lent.{KeepsLent}
 use Rattle.trace_replay.specs.Commands.{Gives}
 use Rattle.trace_replay.specs.AsMade.{IsAsMade}
-use Rattle.trace_replay.specs.Said.{Tells, TellsPart}
+use Rattle.trace_replay.specs.Said.{NoneFailed, Tells, TellsPart}
 use Rattle.trace_replay.specs.Theorem.{EndsAs}
 use Rattle.trace_replay.specs.declared.ended.Ended.{Ended}
 use Rattle.trace_replay.specs.declared.ended.Ended.TheVariants.{Trace, Source, Sink, Flash, Disk, Memory}
@@ -61,16 +61,16 @@ module _ (g : Geometry) (old made now : State) (fit : made ≡ fitted_for g old)
   stays_unarmed : Passes made now false → now.power.stops ≡ []
   stays_unarmed passes = (passes.stayed (ap (λ (x : State). x.power.on) fit) refl).stops ∙ ap (λ (x : State). x.power.stops) fit
 
-  before_new : now.counts.disk_reads ≡ made.counts.disk_reads → now.counts.disk_writes ≡ made.counts.disk_writes → made.faults.cuts ≤ now.faults.cuts → Passes made now false → KeepsReady made now → IsBefore (fitted_for g old) now
-  before_new reads writes cuts passes ready = subst (λ (x : State). IsBefore x now) fit (record { shape = passes.shape; disk_reads = reads; disk_writes = writes; counts = passes.counts; cuts = cuts; ready = ready })
+  before_new : now.counts.disk_reads ≡ made.counts.disk_reads → now.counts.disk_writes ≡ made.counts.disk_writes → NoneFailed made now → Passes made now false → KeepsReady made now → IsBefore (fitted_for g old) now
+  before_new reads writes sound passes ready = subst (λ (x : State). IsBefore x now) fit (record { shape = passes.shape; disk_reads = reads; disk_writes = writes; counts = passes.counts; none_failed = sound; ready = ready })
 
 -- a volume that was opened over what it was made on
 pub new_from : (mode : Mode) (options : Options) (owns : Contents → Type 0) (owes : Contents → List BlockWrite → Type 0) (v : VolumeState) (old made now : State) → made ≡ fitted_for options.geometry old
     → owns now.contents → owes now.contents [] → IsOpened (told_for mode options) nothing_held v
     → ((d : PlainDisk) → IsNewestOnDisk options.geometry made.contents d → StandFor (ImageIs (told_for mode options)) now.contents d)
-    → KeepsReady made now → now.counts.disk_reads ≡ made.counts.disk_reads → now.counts.disk_writes ≡ made.counts.disk_writes → made.faults.cuts ≤ now.faults.cuts → Passes made now false
+    → KeepsReady made now → now.counts.disk_reads ≡ made.counts.disk_reads → now.counts.disk_writes ≡ made.counts.disk_writes → NoneFailed made now → Passes made now false
     → IsNewVolume (told_for mode options) owns owes v old now
-new_from mode options owns owes v old made now fit left owed opened stands ready reads writes cuts passes = record {
+new_from mode options owns owes v old made now fit left owed opened stands ready reads writes sound passes = record {
   left = left;
   owed = owed;
   told = opened.told;
@@ -80,8 +80,28 @@ new_from mode options owns owes v old made now fit left owed opened stands ready
   empty = stands empty (newest_none options.geometry old made now fit);
   on = stays_on options.geometry old made now fit passes;
   unarmed = stays_unarmed options.geometry old made now fit passes;
-  before = before_new options.geometry old made now fit reads writes cuts passes ready;
+  before = before_new options.geometry old made now fit reads writes sound passes ready;
 }
+
+-- what was done to the rig, if the volume was made
+pub begins_made : {V : Type 0} (v : V) (g : Geometry) (old made now : State) → made ≡ fitted_for g old → now.counts.disk_reads ≡ made.counts.disk_reads → now.counts.disk_writes ≡ made.counts.disk_writes → now.faults ≡ made.faults → Passes made now false → Begins (Ok v) old now
+begins_made v g old made now fit reads writes calm passes =
+    let same : now.faults ≡ old.faults = calm ∙ ap (λ (x : State). x.faults) fit in
+    record {
+      only = tt;
+      flash = λ is. cc;
+      disk = λ is. cc;
+      on = λ _. stays_on g old made now fit passes;
+      unarmed = λ _. stays_unarmed g old made now fit passes;
+      counts = subst (λ (x : State). NeverFall x.counts now.counts) fit passes.counts;
+      disk_reads = reads ∙ ap (λ (x : State). x.counts.disk_reads) fit;
+      disk_writes = writes ∙ ap (λ (x : State). x.counts.disk_writes) fit;
+      flash_later = (let flash = ap (λ (f : Faults). f.flash) same in omega (arith, flash));
+      disk_later = (let disk = ap (λ (f : Faults). f.disk) same in omega (arith, disk));
+      none_failed = λ _ _. failed_same old now same;
+      memory = λ is. cc;
+      lent = passes.lent ∙ ap (λ (x : State). x.lent) fit;
+    }
 
 -- it is a disk of zero blocks, also as the volume tells it
 pub empty_new : {o : Told} {owns : Contents → Type 0} {owes : Contents → List BlockWrite → Type 0} {v : VolumeState} {old now : State} → IsNewVolume o owns owes v old now → StandFor (ImageIs v.told) now.contents empty
@@ -111,45 +131,50 @@ not_begun e (inr (inr memory)) not_flash not_disk not_memory = not_memory (let s
 
 -- no volume was made
 pub cause_begun : {V : Type 0} (e : Ended) (a : SourceState) (x : SinkState) (old now : State) → Begins {V = V} (Err e) old now → EndHasCause {T = Unit {0}} (Err e) a a x x old now
-cause_begun Flash a x old now begins = record { source = λ is. absurd (cc); sink = λ is. absurd (cc); flash = λ is. begins.flash refl; disk = λ is. absurd (cc) }
-cause_begun Disk a x old now begins = record { source = λ is. absurd (cc); sink = λ is. absurd (cc); flash = λ is. absurd (cc); disk = λ is. begins.disk refl }
-cause_begun Memory a x old now begins = record { source = λ is. absurd (cc); sink = λ is. absurd (cc); flash = λ is. absurd (cc); disk = λ is. absurd (cc) }
+cause_begun Flash a x old now begins = record { source = λ is. absurd (cc); sink = λ is. absurd (cc); flash = λ is. begins.flash refl; disk = λ is. absurd (cc); source_stays = λ _. refl; sink_stays = λ _. refl; none_failed = λ flash disk. absurd (flash refl) }
+cause_begun Disk a x old now begins = record { source = λ is. absurd (cc); sink = λ is. absurd (cc); flash = λ is. absurd (cc); disk = λ is. begins.disk refl; source_stays = λ _. refl; sink_stays = λ _. refl; none_failed = λ flash disk. absurd (disk refl) }
+cause_begun Memory a x old now begins = record { source = λ is. absurd (cc); sink = λ is. absurd (cc); flash = λ is. absurd (cc); disk = λ is. absurd (cc); source_stays = λ _. refl; sink_stays = λ _. refl; none_failed = λ flash disk. begins.none_failed (λ is. cc) (λ is. cc) }
 cause_begun Trace a x old now begins = absurd (not_begun Trace begins.only (λ is. cc) (λ is. cc) (λ is. cc))
 cause_begun Source a x old now begins = absurd (not_begun Source begins.only (λ is. cc) (λ is. cc) (λ is. cc))
 cause_begun Sink a x old now begins = absurd (not_begun Sink begins.only (λ is. cc) (λ is. cc) (λ is. cc))
 
 pub untraced_begun : {V : Type 0} (e : Ended) (x : SinkState) (old now : State) → Begins {V = V} (Err e) old now → EndHasCauseUntraced {T = Unit {0}} (Err e) x x old now
-untraced_begun Flash x old now begins = record { not_trace = λ is. cc; not_source = λ is. cc; sink = λ is. absurd (cc); flash = λ is. begins.flash refl; disk = λ is. absurd (cc) }
-untraced_begun Disk x old now begins = record { not_trace = λ is. cc; not_source = λ is. cc; sink = λ is. absurd (cc); flash = λ is. absurd (cc); disk = λ is. begins.disk refl }
-untraced_begun Memory x old now begins = record { not_trace = λ is. cc; not_source = λ is. cc; sink = λ is. absurd (cc); flash = λ is. absurd (cc); disk = λ is. absurd (cc) }
+untraced_begun Flash x old now begins = record { not_trace = λ is. cc; not_source = λ is. cc; sink = λ is. absurd (cc); flash = λ is. begins.flash refl; disk = λ is. absurd (cc); sink_stays = λ _. refl; none_failed = λ flash disk. absurd (flash refl) }
+untraced_begun Disk x old now begins = record { not_trace = λ is. cc; not_source = λ is. cc; sink = λ is. absurd (cc); flash = λ is. absurd (cc); disk = λ is. begins.disk refl; sink_stays = λ _. refl; none_failed = λ flash disk. absurd (disk refl) }
+untraced_begun Memory x old now begins = record { not_trace = λ is. cc; not_source = λ is. cc; sink = λ is. absurd (cc); flash = λ is. absurd (cc); disk = λ is. absurd (cc); sink_stays = λ _. refl; none_failed = λ flash disk. begins.none_failed (λ is. cc) (λ is. cc) }
 untraced_begun Trace x old now begins = absurd (not_begun Trace begins.only (λ is. cc) (λ is. cc) (λ is. cc))
 untraced_begun Source x old now begins = absurd (not_begun Source begins.only (λ is. cc) (λ is. cc) (λ is. cc))
 untraced_begun Sink x old now begins = absurd (not_begun Sink begins.only (λ is. cc) (λ is. cc) (λ is. cc))
 
 pub unbegun : {V I O : Type 0} (e : Ended) (a : I) (x : O) (old now : State) → Begins {V = V} (Err e) old now → IsUnbegun {T = Unit {0}} (Err e) a a x x old now
-unbegun Flash a x old now begins = record { only = inl refl; source = refl; sink = refl; counts = begins.counts; disk_reads = begins.disk_reads; disk_writes = begins.disk_writes; unarmed = λ _. begins.unarmed (λ is. cc) }
-unbegun Disk a x old now begins = record { only = inr (inl refl); source = refl; sink = refl; counts = begins.counts; disk_reads = begins.disk_reads; disk_writes = begins.disk_writes; unarmed = λ _. begins.unarmed (λ is. cc) }
-unbegun Memory a x old now begins = record { only = inr (inr refl); source = refl; sink = refl; counts = begins.counts; disk_reads = begins.disk_reads; disk_writes = begins.disk_writes; unarmed = λ device. absurd (elim device [ inl flash ↦ cc | inr disk ↦ cc ]) }
+unbegun Flash a x old now begins = record { only = inl refl; source = refl; sink = refl; counts = begins.counts; disk_reads = begins.disk_reads; disk_writes = begins.disk_writes; unarmed = λ _. begins.unarmed (λ is. cc); memory = λ is. cc }
+unbegun Disk a x old now begins = record { only = inr (inl refl); source = refl; sink = refl; counts = begins.counts; disk_reads = begins.disk_reads; disk_writes = begins.disk_writes; unarmed = λ _. begins.unarmed (λ is. cc); memory = λ is. cc }
+unbegun Memory a x old now begins = record { only = inr (inr refl); source = refl; sink = refl; counts = begins.counts; disk_reads = begins.disk_reads; disk_writes = begins.disk_writes; unarmed = λ device. absurd (elim device [ inl flash ↦ cc | inr disk ↦ cc ]); memory = λ _. begins.memory refl }
 unbegun Trace a x old now begins = absurd (not_begun Trace begins.only (λ is. cc) (λ is. cc) (λ is. cc))
 unbegun Source a x old now begins = absurd (not_begun Source begins.only (λ is. cc) (λ is. cc) (λ is. cc))
 unbegun Sink a x old now begins = absurd (not_begun Sink begins.only (λ is. cc) (λ is. cc) (λ is. cc))
 
 -- a volume was made, and a run over it ended
-pub cause_later : {T V : Type 0} {r : Result T Ended} {made : Result V Ended} {a b : SourceState} {x y : SinkState} {old begun now : State} → Begins made old begun → EndHasCause r a b x y begun now → EndHasCause r a b x y old now
-cause_later begins causes = record {
+pub cause_later : {T V : Type 0} {r : Result T Ended} {v : V} {a b : SourceState} {x y : SinkState} {old begun now : State} → Begins (Ok v) old begun → EndHasCause r a b x y begun now → EndHasCause r a b x y old now
+cause_later {old = old} {begun = begun} {now = now} begins causes = record {
   source = causes.source;
   sink = causes.sink;
   flash = λ is. rose_later _ _ _ begins.flash_later (causes.flash is);
   disk = λ is. rose_later _ _ _ begins.disk_later (causes.disk is);
+  source_stays = causes.source_stays;
+  sink_stays = causes.sink_stays;
+  none_failed = λ flash disk. failed_then old begun now (begins.none_failed (λ is. cc) (λ is. cc)) (causes.none_failed flash disk);
 }
 
-pub untraced_later : {T V : Type 0} {r : Result T Ended} {made : Result V Ended} {x y : SinkState} {old begun now : State} → Begins made old begun → EndHasCauseUntraced r x y begun now → EndHasCauseUntraced r x y old now
-untraced_later begins causes = record {
+pub untraced_later : {T V : Type 0} {r : Result T Ended} {v : V} {x y : SinkState} {old begun now : State} → Begins (Ok v) old begun → EndHasCauseUntraced r x y begun now → EndHasCauseUntraced r x y old now
+untraced_later {old = old} {begun = begun} {now = now} begins causes = record {
   not_trace = causes.not_trace;
   not_source = causes.not_source;
   sink = causes.sink;
   flash = λ is. rose_later _ _ _ begins.flash_later (causes.flash is);
   disk = λ is. rose_later _ _ _ begins.disk_later (causes.disk is);
+  sink_stays = causes.sink_stays;
+  none_failed = λ flash disk. failed_then old begun now (begins.none_failed (λ is. cc) (λ is. cc)) (causes.none_failed flash disk);
 }
 
 pub lent_later : {V : Type 0} {made : Result V Ended} {a b : SourceState} {x y : SinkState} {old begun now : State} → Begins made old begun → KeepsLent a b x y begun now → KeepsLent a b x y old now

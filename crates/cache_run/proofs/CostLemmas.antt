@@ -38,7 +38,7 @@ kept_said (Some xs) None said = absurd said
 kept_said (Some xs) (Some ys) said = said ∙ append-nil xs
 
 -- an end has the same cause, whatever would have been answered
-err_as : {A B : Type 0} (e x : Ended) → IsErrOf {T = A} (Err e) x → IsErrOf {T = B} (Err e) x
+pub err_as : {A B : Type 0} (e x : Ended) → IsErrOf {T = A} (Err e) x → IsErrOf {T = B} (Err e) x
 err_as e x is = let same : e ≡ x = cc in ap Err same
 
 pub cause_as : {A B : Type 0} (e : Ended) (a b : SourceState) (x y : SinkState) (old new : State) → EndHasCause {T = A} (Err e) a b x y old new → EndHasCause {T = B} (Err e) a b x y old new
@@ -47,6 +47,9 @@ cause_as e a b x y old new causes = record {
   sink = λ is. causes.sink (err_as e ended.Sink is);
   flash = λ is. causes.flash (err_as e ended.Flash is);
   disk = λ is. causes.disk (err_as e ended.Disk is);
+  source_stays = λ not. causes.source_stays (λ is. not (err_as e ended.Source is));
+  sink_stays = λ not. causes.sink_stays (λ is. not (err_as e ended.Sink is));
+  none_failed = λ flash disk. causes.none_failed (λ is. flash (err_as e ended.Flash is)) (λ is. disk (err_as e ended.Disk is));
 }
 
 -- of one that printed, the ends are two
@@ -72,15 +75,15 @@ module _ (o : Told) (reads : ℕ → List Reading → Bool → Type 0) (stands :
 
   -- it is more than a number can say
   pub cost_unsaid : z.taken ≡ y.taken → EndsCost o reads x z stands first now (Err ended.Memory)
-  cost_unsaid silent = inr (with_text (λ run answers. TellsCostPart ended.Memory x z first now run) (subst (λ (t : Option (List ℕ)). Appends x.taken t []) (sym silent) runs.printed))
+  cost_unsaid silent = inr (with_text (λ run answers. TellsCostPart ended.Memory x z first now run) (subst (λ (t : Option (List ℕ)). Appends x.taken t []) (sym silent) runs.printed.0))
 
   pub cost_told : (cost : Cost) → IsCostOf runs.run first.counts now.counts cost → (r : Result (Unit {0}) Ended) → OnOk r (Appends y.taken z.taken (cost_text cost))
       → (IsErrOf r ended.Sink → (n : ℕ) × (n < length (cost_text cost)) × Appends y.taken z.taken (take n (cost_text cost))) → (IsErrOf r ended.Memory → z.taken ≡ y.taken) → OnErr r (IsErrOf r ended.Sink ⊎ IsErrOf r ended.Memory)
       → EndsCost o reads x z stands first now r
-  cost_told cost is (Ok done) printed short silent only = with_text (λ run answers. TellsCost x z first now run) (record { cost = cost; is = is; printed = kept_then x.taken y.taken z.taken (cost_text cost) (kept_said x.taken y.taken runs.printed) printed })
+  cost_told cost is (Ok done) printed short silent only = with_text (λ run answers. TellsCost x z first now run) (record { cost = cost; is = is; printed = kept_then x.taken y.taken z.taken (cost_text cost) (kept_said x.taken y.taken runs.printed.0) printed })
   cost_told cost is (Err ended.Sink) printed short silent only =
       let front = short refl in
-      inr (with_text (λ run answers. TellsCostPart ended.Sink x z first now run) (record { cost = cost; is = is; count = front.0; short = front.1; printed = kept_then x.taken y.taken z.taken (take front.0 (cost_text cost)) (kept_said x.taken y.taken runs.printed) front.2 }))
+      inr (with_text (λ run answers. TellsCostPart ended.Sink x z first now run) (record { cost = cost; is = is; count = front.0; short = front.1; printed = kept_then x.taken y.taken z.taken (take front.0 (cost_text cost)) (kept_said x.taken y.taken runs.printed.0) front.2 }))
   cost_told cost is (Err ended.Memory) printed short silent only = cost_unsaid (silent refl)
   cost_told cost is (Err ended.Trace) printed short silent (inl other) = absurd (cc)
   cost_told cost is (Err ended.Trace) printed short silent (inr other) = absurd (cc)

@@ -4,6 +4,7 @@ use Rattle.std.proofs.lemmas.List.Elements.{recursion_from_All}
 use Rattle.std.proofs.lemmas.List.Sums.{sum_by_push}
 use Rattle.std.proofs.lemmas.List.{append-nil}
 use Rattle.std.specs.List.{AllByRecursion}
+use Rattle.std.specs.Result.{IsErrAnd}
 use Rattle.ft_base.specs.Contents.{Contents, Image}
 use Rattle.ft_base.specs.Count.{Rose, last_count}
 use Rattle.ft_base.specs.PlainDisk.{BlockWrite, PlainDisk}
@@ -163,3 +164,19 @@ only_rig ended.Memory causes calm = inr (inr refl)
 pub none_rose : Rose 0 0 → ⊥
 unfolding last_count
 none_rose rose = omega (arith, rose)
+
+-- ---- how the making of a volume ended
+
+-- the error that `?` gives back is the error of the call
+pub exit_same : {T U : Type 0} (r : Result T Ended) (from k : Ended) → IsErrAnd r (λ e. e ≡ from) → IsErrOf {T = U} (Err from) k → IsErrOf r k
+exit_same (Ok value) from k is same = absurd is
+exit_same (Err e) from k is same = let one : from ≡ k = cc in ap Err (is ∙ one)
+
+pub exit_back : {T U : Type 0} (r : Result T Ended) (from k : Ended) → IsErrAnd r (λ e. e ≡ from) → IsErrOf r k → IsErrOf {T = U} (Err from) k
+exit_back (Ok value) from k is same = absurd is
+exit_back (Err e) from k is same = let one : e ≡ k = cc in ap Err (sym is ∙ one)
+
+-- out of memory before a volume was made
+pub memory_at : (old now : State) → (now ≡ old) ⊎ ((now.power.on ≡ true) × (now.power.stops ≡ [])) → (now ≡ old) ⊎ (now.power.on ≡ true)
+memory_at old now (inl same) = inl same
+memory_at old now (inr on) = inr on.0

@@ -34,7 +34,7 @@ use Rattle.trace_replay.specs.declared.ended.Ended.{Ended}
 use Rattle.trace_replay.specs.declared.ended.Ended.TheVariants as ended
 use Rattle.trace_replay.specs.Before.{IsBefore}
 use Rattle.trace_replay.specs.Commands.{TellsRefusal, TellsRefusalPart}
-use Rattle.trace_replay.specs.Said.{RoseAtLeast, Takes, TellsStops, TookPart, stops_in}
+use Rattle.trace_replay.specs.Said.{IsDevice, NoneFailed, RoseAtLeast, Takes, TellsStops, TookPart, stops_in}
 use Rattle.trace_replay.specs.Theorem.{EndsEarly, EndsPart, LeavesRig, RunsWhole, spent_by}
 use Rattle.trace_replay.specs.Went.{Keeps as KeepsDisk}
 use Rattle.trace_replay.proofs.FromLemmas.{before_itself, leaves_from, part_from, refused_from, unread_from}
@@ -44,7 +44,7 @@ use Rattle.cache_run.specs.Inspected.{Asks, EndsInspected, EndsInspecting, Inspe
 use Rattle.cache_run.proofs.SilentLemmas.{front_silent, kept_none, kept_then, none_stopped}
 use Rattle.cache_run.proofs.UncutLemmas.{disk_after-uncut, uncut_none}
 use Rattle.trace_replay.proofs.EndingLemmas.{failed_by}
-use Rattle.trace_replay.proofs.CutsLemmas.{counts_then, long_stopped, stops_all, stops_then as stops_add}
+use Rattle.trace_replay.proofs.CutsLemmas.{counts_then, failed_then, long_stopped, stops_all, stops_then as stops_add}
 
 -- ---- how it ended
 
@@ -94,7 +94,7 @@ inspecting_line o reads loads stands x y first now e ends =
       part = part_from o reads reads (TellsRefusal x y) (TellsRefusal x y) stands stands first first now
           (λ lines all whole known. known) (λ run answers said. said) (λ image d stood. stood) (before_itself first)
           (TellsRefusalPart x y) (TellsInspectPart o.geometry loads now x y) (widen o.geometry loads now x y) e ends;
-      silent = λ other. subst (λ (r : List Answer). Appends x.taken y.taken (text r)) none (took_front e (TellsRefusal x y ends.run) (TellsRefusalPart x y ends.run) ends.part.front ends.part.rest ends.part.taken other);
+      silent = λ other. subst (λ (r : List Answer). Appends x.taken y.taken (text r)) none (took_front e (TellsRefusal x y ends.run) (TellsRefusalPart x y ends.run) ends.part.front ends.part.rest ends.part.taken other).0;
     }
 
 -- and within its report, if it was no refusal and no fault of the source
@@ -106,6 +106,10 @@ inspected_then ended.Sink not_trace not_source ends = ends
 inspected_then ended.Flash not_trace not_source ends = ends
 inspected_then ended.Disk not_trace not_source ends = ends
 inspected_then ended.Memory not_trace not_source ends = ends
+
+-- a result that blames a device
+device_at : {T : Type 0} (e device : Ended) → IsErrOf {T = T} (Err e) device → IsDevice device → IsDevice e
+device_at e device is is_device = let same : e ≡ device = cc in subst IsDevice (sym same) is_device
 
 -- ---- a report after all lines
 
@@ -142,8 +146,8 @@ module _ (o : Told) (reads : ℕ → List Reading → Bool → Type 0) (stands a
   disk_then = kept (disk_without quiet.lost quiet.run) quiet.leaves.disk
 
   -- the report was printed
-  pub whole_then : (n ≡ 0 → KeepsReady mid now) → PrintsReport o.geometry loads now y z → Inspects o reads loads x z after first now
-  whole_then ready prints = record {
+  pub whole_then : NoneFailed mid now → (n ≡ 0 → KeepsReady mid now) → PrintsReport o.geometry loads now y z → Inspects o reads loads x z after first now
+  whole_then sound ready prints = record {
     report = prints.report;
     is = prints.is;
     whole = record {
@@ -160,6 +164,7 @@ module _ (o : Told) (reads : ℕ → List Reading → Bool → Type 0) (stands a
         disk = disk_then;
         stops = stops_then;
         risen = risen_then;
+        none_failed = failed_then first mid now quiet.leaves.none_failed sound;
         ready = λ none b was. ready (omega (arith, none)) b (quiet.leaves.ready (omega (arith, none)) b was);
       };
       backs = subst (λ k. WritesBack o quiet.run first.counts.disk_writes k) (sym asks.disk_writes) quiet.backs;
@@ -197,8 +202,8 @@ module _ (o : Told) (reads : ℕ → List Reading → Bool → Type 0) (stands a
   }
 
   -- as the sink failed, within the report
-  inspecting_sink : PrintsFront o.geometry loads now y z → EndsInspecting o reads loads x z after first now ended.Sink
-  inspecting_sink part =
+  inspecting_sink : NoneFailed mid now → PrintsFront o.geometry loads now y z → EndsInspecting o reads loads x z after first now ended.Sink
+  inspecting_sink sound part =
       let k = quiet.cuts + n in
       let said = stopped k ++ lost_told quiet.lost in
       let all : stops_in said ≡ k + 0 = stops_add (stopped k) (lost_told quiet.lost) ∙ ap (λ i. i + stops_in (lost_told quiet.lost)) (stops_all k) ∙ ap (λ i. k + i) (stops_lost quiet.lost) in
@@ -209,14 +214,15 @@ module _ (o : Told) (reads : ℕ → List Reading → Bool → Type 0) (stands a
         taken = inr (refl, record { report = part.report; is = part.is; count = part.count; short = part.short; printed = kept_then x.taken y.taken z.taken _ silent part.printed });
       }) (λ empty. absurd (let some : end_of quiet.lost quiet.run ∷ [] ≡ [] = empty in cc)) (record {
         risen = λ below. let rose = risen_then below in omega arith;
+        none_failed = λ _. failed_then first mid now quiet.leaves.none_failed sound;
         only = λ device. absurd device;
         queue = λ device. absurd device;
         fell = (k, omega arith, omega arith, stops_then);
       }) (λ other. absurd (other refl))
 
   -- and in any other way, when nothing of it was printed
-  inspecting_other : (e : Ended) → e ≢ ended.Sink → z ≡ y → EndsInspecting o reads loads x z after first now e
-  inspecting_other e other same =
+  inspecting_other : (e : Ended) → e ≢ ended.Sink → ((IsDevice e → ⊥) → NoneFailed mid now) → z ≡ y → EndsInspecting o reads loads x z after first now e
+  inspecting_other e other sound same =
       let k = quiet.cuts + n in
       let all = stops_all k in
       let long = long_stopped k in
@@ -226,27 +232,28 @@ module _ (o : Told) (reads : ℕ → List Reading → Bool → Type 0) (stands a
         rest = lost_told quiet.lost ++ end_of quiet.lost quiet.run ∷ [];
         both = refl;
         taken = takes_other e (TellsRefusal x z quiet.run) (TellsInspectPart o.geometry loads now x z quiet.run) (stopped k) (lost_told quiet.lost ++ end_of quiet.lost quiet.run ∷ []) other
-            (subst (λ (r : List Answer). Appends x.taken z.taken (text r)) (sym (none_stopped k)) nothing);
+            (subst (λ (r : List Answer). Appends x.taken z.taken (text r)) (sym (none_stopped k)) nothing, ap (λ (s : SinkState). s.faults) same ∙ quiet.printed.1);
       }) (some_last (lost_told quiet.lost) (end_of quiet.lost quiet.run)) (record {
         risen = λ below. let rose = risen_then below in omega arith;
+        none_failed = λ calm. failed_then first mid now quiet.leaves.none_failed (sound calm);
         only = λ device. ap stopped (sym long);
         queue = λ device. stops_then ∙ ap (λ i. drop i (armed_after quiet.run)) (sym long);
         fell = (k, omega arith, omega arith, stops_then);
       }) (λ still. nothing)
 
-  pub inspecting_then : (e : Ended) → (e ≡ ended.Sink → PrintsFront o.geometry loads now y z) → (e ≢ ended.Sink → z ≡ y) → EndsInspecting o reads loads x z after first now e
-  inspecting_then ended.Sink short same = inspecting_sink (short refl)
-  inspecting_then ended.Trace short same = inspecting_other ended.Trace (λ is. cc) (same (λ is. cc))
-  inspecting_then ended.Source short same = inspecting_other ended.Source (λ is. cc) (same (λ is. cc))
-  inspecting_then ended.Flash short same = inspecting_other ended.Flash (λ is. cc) (same (λ is. cc))
-  inspecting_then ended.Disk short same = inspecting_other ended.Disk (λ is. cc) (same (λ is. cc))
-  inspecting_then ended.Memory short same = inspecting_other ended.Memory (λ is. cc) (same (λ is. cc))
+  pub inspecting_then : (e : Ended) → ((IsDevice e → ⊥) → NoneFailed mid now) → (e ≡ ended.Sink → PrintsFront o.geometry loads now y z) → (e ≢ ended.Sink → z ≡ y) → EndsInspecting o reads loads x z after first now e
+  inspecting_then ended.Sink sound short same = inspecting_sink (sound (λ device. device)) (short refl)
+  inspecting_then ended.Trace sound short same = inspecting_other ended.Trace (λ is. cc) sound (same (λ is. cc))
+  inspecting_then ended.Source sound short same = inspecting_other ended.Source (λ is. cc) sound (same (λ is. cc))
+  inspecting_then ended.Flash sound short same = inspecting_other ended.Flash (λ is. cc) sound (same (λ is. cc))
+  inspecting_then ended.Disk sound short same = inspecting_other ended.Disk (λ is. cc) sound (same (λ is. cc))
+  inspecting_then ended.Memory sound short same = inspecting_other ended.Memory (λ is. cc) sound (same (λ is. cc))
 
   -- by what the report answered
   pub inspected_by : (r : Result (Unit {0}) Ended) → OnOk r (n ≡ 0 → KeepsReady mid now) → OnOk r (PrintsReport o.geometry loads now y z) → (IsErrOf r ended.Sink → PrintsFront o.geometry loads now y z)
-      → IfErr r (λ e. e ≢ ended.Sink → z ≡ y) → (IsErrOf r ended.Trace → ⊥) → (IsErrOf r ended.Source → ⊥) → EndsInspected o reads loads x z after first now r
-  inspected_by (Ok done) ready prints short same not_trace not_source = whole_then ready prints
-  inspected_by (Err e) ready prints short same not_trace not_source = inspected_then e (λ is. not_trace (ap failed_by is)) (λ is. not_source (ap failed_by is)) (inspecting_then e (λ is. short (ap failed_by is)) same)
+      → IfErr r (λ e. e ≢ ended.Sink → z ≡ y) → ((IsErrOf r ended.Flash → ⊥) → (IsErrOf r ended.Disk → ⊥) → NoneFailed mid now) → (IsErrOf r ended.Trace → ⊥) → (IsErrOf r ended.Source → ⊥) → EndsInspected o reads loads x z after first now r
+  inspected_by (Ok done) ready prints short same sound not_trace not_source = whole_then (sound (λ is. cc) (λ is. cc)) ready prints
+  inspected_by (Err e) ready prints short same sound not_trace not_source = inspected_then e (λ is. not_trace (ap failed_by is)) (λ is. not_source (ap failed_by is)) (inspecting_then e (λ calm. sound (λ is. calm (device_at e ended.Flash is tt)) (λ is. calm (device_at e ended.Disk is tt))) (λ is. short (ap failed_by is)) same)
 
 -- ---- from an earlier state, for another reading of the images and of the flash
 
@@ -256,7 +263,7 @@ module _ (o : Told) (reads other : ℕ → List Reading → Bool → Type 0) (lo
     (before : IsBefore earlier first) where
   rose_since : Rose first.faults.cuts now.faults.cuts → Rose earlier.faults.cuts now.faults.cuts
   rose_since rose =
-      let later = before.cuts in
+      let later = before.none_failed.later in
       let since : min (first.faults.cuts + 1) last_count ≤ now.faults.cuts = rose in
       omega (arith, since)
 

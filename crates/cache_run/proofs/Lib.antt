@@ -2,6 +2,7 @@ pub mod AskLemmas
 pub mod BeginLemmas
 pub mod CountLemmas
 pub mod CostLemmas
+pub mod EndLemmas
 pub mod InspectLemmas
 pub mod ManyLemmas
 pub mod OwedLemmas

@@ -10,6 +10,7 @@ use Rattle.ft_volume.specs.Opening.{ImageIs}
 use Rattle.ft_volume.specs.Volume.{VolumeState}
 use Rattle.ft_volume.specs.Standing.{StandFor}
 use Rattle.trace_replay.specs.Before.{IsBefore}
+use Rattle.trace_replay.specs.Said.{NoneFailed}
 use Rattle.trace_replay.specs.declared.ended.Ended.{Ended}
 use Rattle.trace_replay.specs.declared.ended.Ended.TheVariants.{Flash, Disk, Memory}
 use Rattle.cache_run.specs.Fitted.{fitted_for}
@@ -30,8 +31,9 @@ pub record IsNewVolume (o : Told) (owns : Contents → Type 0) (owes : Contents 
   pub unarmed : now.power.stops ≡ []
   pub before : IsBefore (fitted_for o.geometry old) now
 
--- what making a volume does to the rig, whatever it answers: a device that failed is told by its count; power is on and
--- nothing is armed unless memory was refused; no count falls, and no block of the disk is read or written
+-- what making a volume does to the rig, whatever it answers: a device that failed is blamed, and its count rose; power is
+-- on and nothing is armed, or memory ran out before the rig was fitted; no count falls, and no block of the disk is read
+-- or written
 pub record Begins {V : Type 0} (result : Result V Ended) (old now : State) : Type 0 where
   pub only : OnErr result (IsErrOf result Flash ⊎ IsErrOf result Disk ⊎ IsErrOf result Memory)
   pub flash : IsErrOf result Flash → Rose old.faults.flash now.faults.flash
@@ -43,10 +45,12 @@ pub record Begins {V : Type 0} (result : Result V Ended) (old now : State) : Typ
   pub disk_writes : now.counts.disk_writes ≡ old.counts.disk_writes
   pub flash_later : old.faults.flash ≤ now.faults.flash
   pub disk_later : old.faults.disk ≤ now.faults.disk
+  pub none_failed : (IsErrOf result Flash → ⊥) → (IsErrOf result Disk → ⊥) → NoneFailed old now
+  pub memory : IsErrOf result Memory → (now ≡ old) ⊎ ((now.power.on ≡ true) × (now.power.stops ≡ []))
   pub lent : now.lent ≡ old.lent
 
--- it ended before its volume was made: nothing was read or printed, no count fell, no block of the disk was read or
--- written, and if a device failed no stop is armed
+-- it ended before its volume was made: nothing was read or printed, no count fell, and no block of the disk was read or
+-- written. If a device failed no stop is armed. If memory ran out the rig is as it was, or has power on and no stop armed
 pub record IsUnbegun {T I O : Type 0} (result : Result T Ended) (a b : I) (x y : O) (old now : State) : Type 0 where
   pub only : IsErrOf result Flash ⊎ IsErrOf result Disk ⊎ IsErrOf result Memory
   pub source : b ≡ a
@@ -55,3 +59,4 @@ pub record IsUnbegun {T I O : Type 0} (result : Result T Ended) (a b : I) (x y :
   pub disk_reads : now.counts.disk_reads ≡ old.counts.disk_reads
   pub disk_writes : now.counts.disk_writes ≡ old.counts.disk_writes
   pub unarmed : IsErrOf result Flash ⊎ IsErrOf result Disk → now.power.stops ≡ []
+  pub memory : IsErrOf result Memory → (now ≡ old) ⊎ ((now.power.on ≡ true) × (now.power.stops ≡ []))

@@ -118,6 +118,7 @@ fn print_cost<O: Sink>(alloc: Global, sink: &mut O, cost: &Cost) -> Result<(), E
         × Appends (O.state sink.old).taken (O.state sink.new).taken (take n (cost_text cost.now)) }
     ensures silent { IsErrOf result Ended.Memory → sink.new ≡ sink.old }
     ensures rose { IsErrOf result Ended.Sink → Rose (O.state sink.old).faults (O.state sink.new).faults }
+    ensures stays { (IsErrOf result Ended.Sink → ⊥) → (O.state sink.new).faults ≡ (O.state sink.old).faults }
     ensures only { OnErr result (IsErrOf result Ended.Sink ⊎ IsErrOf result Ended.Memory) }
     ensures lent { (O.state sink.new).lent ≡ (O.state sink.old).lent }
 {

@@ -5,6 +5,7 @@ ghost use Rattle.ft_media.specs.Passes.{NeverFall, device_writes};
 ghost use Rattle.trace_model.specs.Backs.{IsUncut};
 ghost use Rattle.trace_model.specs.Lines.{IsRunnable};
 ghost use Rattle.trace_replay.specs.AsMade.{IsAsMade};
+ghost use Rattle.trace_replay.specs.Said.{NoneFailed};
 ghost use Rattle.cache_run.specs.Counted.{CountsFrom, CountsWrites, RigGoesOn};
 ghost use Rattle.cache_run.specs.Ends.{told_by};
 
@@ -71,6 +72,7 @@ fn count_over<R: Rig, V: Volume<R>>(
     ensures flash { IsErrOf result Ended.Flash → Rose (R.state rig.old).faults.flash (R.state rig.new).faults.flash }
     ensures disk { IsErrOf result Ended.Disk → Rose (R.state rig.old).faults.disk (R.state rig.new).faults.disk }
     ensures only { OnErr result (IsErrOf result Ended.Flash ⊎ IsErrOf result Ended.Disk ⊎ IsErrOf result Ended.Memory) }
+    ensures sound { (IsErrOf result Ended.Flash → ⊥) → (IsErrOf result Ended.Disk → ⊥) → NoneFailed (R.state rig.old) (R.state rig.new) }
     ensures on { (R.state rig.new).power.on ≡ true }
     ensures goes { RigGoesOn (R.state rig.old) (R.state rig.new) }
 {
@@ -103,7 +105,9 @@ pub fn count_lines<R: Rig>(
     ensures flash { IsErrOf result Ended.Flash → Rose (R.state rig.old).faults.flash (R.state rig.new).faults.flash }
     ensures disk { IsErrOf result Ended.Disk → Rose (R.state rig.old).faults.disk (R.state rig.new).faults.disk }
     ensures only { OnErr result (IsErrOf result Ended.Flash ⊎ IsErrOf result Ended.Disk ⊎ IsErrOf result Ended.Memory) }
+    ensures sound { (IsErrOf result Ended.Flash → ⊥) → (IsErrOf result Ended.Disk → ⊥) → NoneFailed (R.state rig.old) (R.state rig.new) }
     ensures on { (IsErrOf result Ended.Memory → ⊥) → (R.state rig.new).power.on ≡ true }
+    ensures memory { IsErrOf result Ended.Memory → (R.state rig.new ≡ R.state rig.old) ⊎ ((R.state rig.new).power.on ≡ true) }
     ensures goes { RigGoesOn (R.state rig.old) (R.state rig.new) }
 {
     match setup.mode {

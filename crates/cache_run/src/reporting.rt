@@ -9,7 +9,7 @@ ghost use Rattle.ft_media.specs.Rig.{powered};
 ghost use Rattle.ft_volume.specs.Volume.{StaysOwner};
 ghost use Rattle.ft_volume.specs.declared.volume.VolumeError.TheVariants as volume_error;
 ghost use Rattle.trace_replay.specs.Causes.{EndHasCauseUntraced};
-ghost use Rattle.trace_replay.specs.Said.{ended_of};
+ghost use Rattle.trace_replay.specs.Said.{NoneFailed, ended_of};
 ghost use Rattle.trace_replay.specs.Went.{Keeps};
 ghost use Rattle.cache_run.specs.Inspected.{Asks, CanReport, IsReportOf, Prints, PrintsFront, PrintsReport, cuts_by, report_text};
 
@@ -51,6 +51,7 @@ fn report_once<R: Rig, V: Volume<R>>(rig: &mut R, volume: &mut V) -> Result<Opti
     ensures flash { IsErrOf result Ended.Flash → Rose (R.state rig.old).faults.flash (R.state rig.new).faults.flash }
     ensures disk { IsErrOf result Ended.Disk → Rose (R.state rig.old).faults.disk (R.state rig.new).faults.disk }
     ensures only { OnErr result (IsErrOf result Ended.Flash ⊎ IsErrOf result Ended.Disk ⊎ IsErrOf result Ended.Memory) }
+    ensures sound { (IsErrOf result Ended.Flash → ⊥) → (IsErrOf result Ended.Disk → ⊥) → NoneFailed (R.state rig.old) (R.state rig.new) }
 {
     match volume.report(rig) {
         Ok(report) => Ok(Some(report)),
@@ -78,6 +79,7 @@ pub(crate) fn report_through<R: Rig, V: Volume<R>>(
     ensures flash { IsErrOf result Ended.Flash → Rose (R.state rig.old).faults.flash (R.state rig.new).faults.flash }
     ensures disk { IsErrOf result Ended.Disk → Rose (R.state rig.old).faults.disk (R.state rig.new).faults.disk }
     ensures only { OnErr result (IsErrOf result Ended.Flash ⊎ IsErrOf result Ended.Disk ⊎ IsErrOf result Ended.Memory) }
+    ensures sound { (IsErrOf result Ended.Flash → ⊥) → (IsErrOf result Ended.Disk → ⊥) → NoneFailed (R.state rig.old) (R.state rig.new) }
 {
     'again: loop {
         match report_once(rig, volume) {
@@ -109,6 +111,7 @@ fn print_report<O: Sink>(alloc: Global, sink: &mut O, report: &Report) -> Result
         × Appends (O.state sink.old).taken (O.state sink.new).taken (take n (report_text report.now)) }
     ensures silent { IsErrOf result Ended.Memory → sink.new ≡ sink.old }
     ensures rose { IsErrOf result Ended.Sink → Rose (O.state sink.old).faults (O.state sink.new).faults }
+    ensures stays { (IsErrOf result Ended.Sink → ⊥) → (O.state sink.new).faults ≡ (O.state sink.old).faults }
     ensures only { OnErr result (IsErrOf result Ended.Sink ⊎ IsErrOf result Ended.Memory) }
     ensures lent { (O.state sink.new).lent ≡ (O.state sink.old).lent }
 {

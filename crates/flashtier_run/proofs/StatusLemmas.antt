@@ -1,5 +1,5 @@
 -- What holds at a status, from what a run answered.
-use Rattle.std.proofs.Common.{◌≡◌, ◌⊎◌, ◌≤◌, inl, inr, ℕ, true, Result, Ok, Err, OnOk, IsErrOf, refl, sym, ◌∙◌, arith}
+use Rattle.std.proofs.Common.{◌≡◌, ◌⊎◌, ◌≤◌, inl, inr, ℕ, true, Result, Ok, Err, OnOk, IsErrOf, refl, sym, ap, ◌∙◌, arith}
 use Rattle.ft_base.specs.StreamState.{SinkState, SourceState}
 use Rattle.ft_media.specs.State.{State}
 use Rattle.flashtier_words.specs.declared.command.Command.{Command}
@@ -11,6 +11,7 @@ use Rattle.trace_replay.specs.declared.ended.Ended.{Ended}
 use Rattle.trace_replay.specs.declared.ended.Ended.TheVariants.{Trace, Source, Sink, Flash, Disk, Memory}
 use Rattle.cache_run.specs.Begun.{IsUnbegun}
 use Rattle.cache_run.specs.Status.{status_of}
+use Rattle.trace_sweep.specs.Causes.{SweepHasCause}
 use Rattle.flashtier_run.specs.Ends.{EndsCommand, IsOverOne}
 use Rattle.flashtier_run.specs.Runs.{IsMade, IsRead, IsSwept, Runs, RunsEveryLine}
 use Rattle.flashtier_run.specs.Status.{StatusHasCause}
@@ -93,7 +94,7 @@ unless_memory (Err Memory) n is a other = absurd (other is)
 
 module _ (r : Result (Unit {0}) Ended) (n : ℕ) (is : n ≡ status_of r) (a b : SourceState) (x y : SinkState) (old new : State) where
   -- a trace was read
-  pub status_cause : EndHasCause r a b x y old new → StatusHasCause n a b x y old new
+  pub status_cause : SweepHasCause r a b x y old new → StatusHasCause n a b x y old new
   status_cause causes = record {
     source = λ so. at_source r causes.source (sym is ∙ so);
     sink = λ so. at_sink r causes.sink (sym is ∙ so);
@@ -109,6 +110,22 @@ module _ (r : Result (Unit {0}) Ended) (n : ℕ) (is : n ≡ status_of r) (a b :
     flash = λ so. at_flash r causes.flash (sym is ∙ so);
     disk = λ so. at_disk r causes.disk (sym is ∙ so);
   }
+
+stays_ok : {A : Type 0} (r : Result (Unit {0}) Ended) → ((IsErrOf r Source → ⊥) → A) → OnOk r A
+stays_ok (Ok done) stays = stays (λ is. cc)
+stays_ok (Err e) stays = tt
+
+-- the causes of a run are causes of a sweep
+pub swept_cause : (r : Result (Unit {0}) Ended) (a b : SourceState) (x y : SinkState) (old new : State) → EndHasCause r a b x y old new → SweepHasCause r a b x y old new
+swept_cause r a b x y old new causes = record {
+  source = causes.source;
+  sink = causes.sink;
+  flash = causes.flash;
+  disk = causes.disk;
+  source_stays = stays_ok r causes.source_stays;
+  sink_stays = causes.sink_stays;
+  none_failed = causes.none_failed;
+}
 
 -- the status of a run in which nothing failed
 pub unfailed : (r : Result (Unit {0}) Ended) (n : ℕ) → n ≡ status_of r → (IsErrOf r Source → ⊥) → (IsErrOf r Sink → ⊥) → (IsErrOf r Flash → ⊥) → (IsErrOf r Disk → ⊥) → (n ≡ 0) ⊎ (n ≡ 2) ⊎ (n ≡ 7)
@@ -137,7 +154,7 @@ known (Err Disk) n is = omega (arith, is)
 known (Err Memory) n is = omega (arith, is)
 
 module _ (command : Command) (r : Result (Unit {0}) Ended) (n : ℕ) (is : n ≡ status_of r) (a b : SourceState) (x y : SinkState) (old new : State) where
-  every_read : (IsMade command → ⊥) → EndHasCause r a b x y old new → RunsEveryLine command n a b x y old new
+  every_read : (IsMade command → ⊥) → SweepHasCause r a b x y old new → RunsEveryLine command n a b x y old new
   every_read read causes = record {
     complete = λ _ source sink flash disk. unfailed r n is (λ so. source (causes.source so)) (λ so. sink (causes.sink so)) (λ so. flash (causes.flash so)) (λ so. disk (causes.disk so));
     complete_made = λ made sink flash disk. absurd (read made);
@@ -151,10 +168,17 @@ module _ (command : Command) (r : Result (Unit {0}) Ended) (n : ℕ) (is : n ≡
 
 module _ {I O R : Type 0} (command : Command) (end : Result (Unit {0}) Ended) (n : ℕ) (is : n ≡ status_of end) (i j : I) (o p : O) (r s : R) (a b : SourceState) (x y : SinkState) (old new : State) where
   -- a trace was read
-  pub runs_read : (IsMade command → ⊥) → (IsOverOne command × IsUnbegun end i j o p old new) ⊎ EndsCommand a b x y old new command end → OnOk end (IsAtEnd b.left) → EndHasCause end a b x y old new
-      → ((IsErrOf end Memory → ⊥) → (new.power.on ≡ true) ⊎ (IsSwept command × (s ≡ r))) → KeepsLent a b x y old new → Runs Off command n i j o p r s a b x y old new
-  runs_read read ends at_end causes on lent = record {
-    ends = record { end = end; is = is; so = ends };
+  runs_any : (IsMade command → ⊥) → (IsOverOne command × IsUnbegun end i j o p old new) ⊎ EndsCommand a b x y old new command end → OnOk end (IsAtEnd b.left) → SweepHasCause end a b x y old new
+      → ((IsErrOf end Source → ⊥) → (IsSwept command → n ≡ 0) → b.faults ≡ a.faults) → ((IsErrOf end Memory → ⊥) → (new.power.on ≡ true) ⊎ (IsSwept command × (s ≡ r))) → KeepsLent a b x y old new → Runs Off command n i j o p r s a b x y old new
+  runs_any read ends at_end causes stays on lent = record {
+    ends = record {
+      end = end;
+      is = is;
+      so = ends;
+      source_stays = λ not swept. stays (λ so. not (is ∙ ap status_of so)) swept;
+      sink_stays = λ not. causes.sink_stays (λ so. not (is ∙ ap status_of so));
+      none_failed = λ flash disk. causes.none_failed (λ so. flash (is ∙ ap status_of so)) (λ so. disk (is ∙ ap status_of so));
+    };
     end = λ _ done. at_ok end at_end (sym is ∙ done);
     unused = λ made. absurd (read made);
     known = known end n is;
@@ -165,11 +189,28 @@ module _ {I O R : Type 0} (command : Command) (end : Result (Unit {0}) Ended) (n
     lines = every_read command end n is a b x y old new read causes;
   }
 
+  -- as its lines were run
+  pub runs_read : (IsMade command → ⊥) → (IsOverOne command × IsUnbegun end i j o p old new) ⊎ EndsCommand a b x y old new command end → OnOk end (IsAtEnd b.left) → EndHasCause end a b x y old new
+      → ((IsErrOf end Memory → ⊥) → (new.power.on ≡ true) ⊎ (IsSwept command × (s ≡ r))) → KeepsLent a b x y old new → Runs Off command n i j o p r s a b x y old new
+  runs_read read ends at_end causes on lent = runs_any read ends at_end (swept_cause end a b x y old new causes) (λ not swept. causes.source_stays not) on lent
+
+  -- whole, before it was swept
+  pub runs_swept : IsSwept command → (IsMade command → ⊥) → (IsOverOne command × IsUnbegun end i j o p old new) ⊎ EndsCommand a b x y old new command end → OnOk end (IsAtEnd b.left) → SweepHasCause end a b x y old new
+      → ((IsErrOf end Memory → ⊥) → (new.power.on ≡ true) ⊎ (IsSwept command × (s ≡ r))) → KeepsLent a b x y old new → Runs Off command n i j o p r s a b x y old new
+  runs_swept swept read ends at_end causes on lent = runs_any read ends at_end causes (λ not zero. at_ok end causes.source_stays (sym is ∙ zero swept)) on lent
+
   -- one was made
-  pub runs_made : (IsRead command → ⊥) → j ≡ i → (IsOverOne command × IsUnbegun end i j o p old new) ⊎ EndsCommand a b x y old new command end → EndHasCauseUntraced end x y old new
+  pub runs_made : (IsRead command → ⊥) → j ≡ i → b.faults ≡ a.faults → (IsOverOne command × IsUnbegun end i j o p old new) ⊎ EndsCommand a b x y old new command end → EndHasCauseUntraced end x y old new
       → ((IsErrOf end Memory → ⊥) → new.power.on ≡ true) → KeepsLent a b x y old new → Runs Off command n i j o p r s a b x y old new
-  runs_made made same ends causes on lent = record {
-    ends = record { end = end; is = is; so = ends };
+  runs_made made same stays ends causes on lent = record {
+    ends = record {
+      end = end;
+      is = is;
+      so = ends;
+      source_stays = λ _ _. stays;
+      sink_stays = λ not. causes.sink_stays (λ so. not (is ∙ ap status_of so));
+      none_failed = λ flash disk. causes.none_failed (λ so. flash (is ∙ ap status_of so)) (λ so. disk (is ∙ ap status_of so));
+    };
     end = λ read. absurd (made read);
     unused = λ _. same;
     known = known end n is;
@@ -184,4 +225,4 @@ module _ {I O R : Type 0} (command : Command) (end : Result (Unit {0}) Ended) (n
 
 -- where there was no source to read, it is as before
 pub unbegun_source : {I O : Type 0} {r : Result (Unit {0}) Ended} {a : I} {x y : O} {old now : State} → IsUnbegun r (tt {0}) (tt {0}) x y old now → IsUnbegun r a a x y old now
-unbegun_source none = record { only = none.only; source = refl; sink = none.sink; counts = none.counts; disk_reads = none.disk_reads; disk_writes = none.disk_writes; unarmed = none.unarmed }
+unbegun_source none = record { only = none.only; source = refl; sink = none.sink; counts = none.counts; disk_reads = none.disk_reads; disk_writes = none.disk_writes; unarmed = none.unarmed; memory = none.memory }

@@ -5,6 +5,7 @@ use Rattle.ft_base.specs.Count.{Rose}
 use Rattle.ft_base.specs.StreamState.{SinkState, SourceState}
 use Rattle.ft_media.specs.State.{State}
 use Rattle.trace_replay.specs.Lent.{KeepsLent}
+use Rattle.trace_replay.specs.Said.{NoneFailed}
 use Rattle.trace_replay.specs.declared.ended.Ended.{Ended}
 use Rattle.flashtier_words.specs.Command.{Text}
 use Rattle.flashtier_words.specs.Spoken.{AreWordsFor}
@@ -48,12 +49,16 @@ pub record RunsEveryLine (command : Command) (status : ℕ) (a b : SourceState) 
       → (Rose old.faults.flash new.faults.flash → ⊥) → (Rose old.faults.disk new.faults.disk → ⊥)
       → (status ≡ 0) ⊎ (status ≡ 7)
 
--- it ended with this status, before its volume was made or over it
+-- it ended with this status, before its volume was made or over it. The status hides no fault, but for one: a sweep
+-- reads its trace before it looks at the lines, so another end of it may come before a fault of the source
 pub record EndsAt (command : Command) (status : ℕ) {I O : Type 0} (i j : I) (o p : O) (a b : SourceState) (x y : SinkState)
     (first now : State) : Type 0 where
   pub end : Result (Unit {0}) Ended
   pub is : status ≡ status_of end
   pub so : (IsOverOne command × IsUnbegun end i j o p first now) ⊎ EndsCommand a b x y first now command end
+  pub source_stays : status ≢ 3 → (IsSwept command → status ≡ 0) → b.faults ≡ a.faults
+  pub sink_stays : status ≢ 4 → y.faults ≡ x.faults
+  pub none_failed : status ≢ 5 → status ≢ 6 → NoneFailed first now
 
 -- a command ran, with parity or without
 pub record Runs (parity : Parity) (command : Command) (status : ℕ) {I O R : Type 0} (i j : I) (o p : O) (r s : R)

@@ -1,5 +1,5 @@
 //! The front of a trace: the bytes that a sweep looks at.
-ghost use Rattle.std.specs.Prelude.{◌≡◌, ◌≤◌, ◌<◌, ◌+◌, length, take, drop, IfOk, OnErr};
+ghost use Rattle.std.specs.Prelude.{◌≡◌, ◌≢◌, ◌≤◌, ◌<◌, ◌+◌, length, take, drop, IfOk, OnErr};
 ghost use Rattle.std.specs.Io.KnownBytes.{Consumes, IsAtEnd, Keeps};
 ghost use Rattle.ft_base.specs.Count.{Blames, Rose};
 
@@ -23,6 +23,7 @@ pub(crate) fn read_front<I: Source>(source: &mut I, buffer: &mut [u8]) -> (usize
     ensures taken { Consumes (I.state source.old).left (I.state source.new).left (take result.0 buffer.new) }
     ensures end { result.1 ≡ ReadTo.End → IsAtEnd (I.state source.new).left × (result.0 < length buffer.new) }
     ensures fault { result.1 ≡ ReadTo.Fault → Rose (I.state source.old).faults (I.state source.new).faults × (result.0 < length buffer.new) }
+    ensures told { result.1 ≢ ReadTo.Fault → (I.state source.new).faults ≡ (I.state source.old).faults }
     ensures limit { result.1 ≡ ReadTo.Limit → result.0 ≡ length buffer.new }
     ensures later { (I.state source.old).faults ≤ (I.state source.new).faults }
     ensures lent { (I.state source.new).lent ≡ (I.state source.old).lent }

@@ -1,5 +1,5 @@
 //! Reads a trace, and then holds its lines.
-ghost use Rattle.std.specs.Prelude.{◌≡◌, ◌≤◌, ℕ, Bool, true, false, List, [], length, map, IfOk, IsErrOf};
+ghost use Rattle.std.specs.Prelude.{◌≡◌, ◌≤◌, ℕ, Bool, true, false, List, [], length, map, IfOk, OnOk, IsErrOf};
 ghost use Rattle.ft_base.specs.Count.{Rose};
 ghost use Rattle.trace_model.specs.declared.line.Line.{Line};
 ghost use Rattle.trace_model.specs.declared.line.LineError.{LineError};
@@ -53,6 +53,7 @@ impl HeldTrace {
             × RefusesFirst all line cause }
         ensures source { IsErrOf result TakeError.Source → Rose (I.state source.old).faults (I.state source.new).faults
             × ((lines : List Line) × SweepReads size (I.state source.old) (I.state source.new) (map accepted lines) false) }
+        ensures told { OnOk result ((I.state source.new).faults ≡ (I.state source.old).faults) }
         ensures later { (I.state source.old).faults ≤ (I.state source.new).faults }
         ensures lent { (I.state source.new).lent ≡ (I.state source.old).lent }
     {

@@ -75,7 +75,7 @@ module _ (share disks : ℕ) (ack : Ack) (s : SourceState) (x y : SinkState) (ru
       let long = long_given share came.many (lines_given e) came.given in
       let first = run_first share disks run more came.many begins.0 readings begins.1 (lines_given more) (came.given ∙ ap (map accepted) (lines_after run more)) in
       let all = printed_all share disks readings ack run first.0 first.1 fits (on_one_run share run more came.one_disk) more answers after.said after.end after.few in
-      (all.0, subst (λ (ps : List Printed). Appends x.taken y.taken (printed_text ps)) (printed_whole share disks run more came.many begins.0 readings begins.1 (omega arith) ∙ all.1) came.said)
+      (all.0, subst (λ (ps : List Printed). Appends x.taken y.taken (printed_text ps)) (printed_whole share disks run more came.many begins.0 readings begins.1 (omega arith) ∙ all.1) came.said.0)
 
   -- a front of the text of an answer
   tells_next : (next : Answer) → BreaksAfter run answers next more → BrokeMany share disks y s x (events_of run ++ more) (Took next) → TellsManyPart share disks s x y run answers (Some next)

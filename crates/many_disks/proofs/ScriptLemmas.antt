@@ -32,7 +32,7 @@ use Rattle.many_disks.specs.declared.line.ManyLine.TheVariants.{Disk, Plain}
 use Rattle.many_disks.specs.declared.tally.Tally.{Tally}
 use Rattle.many_disks.specs.Known.{as_many, length-coded, volume_readings-append}
 use Rattle.many_disks.specs.Lines.{ManyReading, chosen_after, chosen_in, many_of, shifted}
-use Rattle.many_disks.specs.Printing.{Prints}
+use Rattle.many_disks.specs.Printing.{Adds, Prints}
 use Rattle.many_disks.specs.Readings.{volume_reading, volume_readings}
 use Rattle.many_disks.specs.Script.{BrokeMany, CameMany, accepted_many, code, coded, event_printed, events_printed, script_printed, took_printed}
 use Rattle.many_disks.specs.Tally.{AreOnOneDisk, AreTalliesOf, IsOnOneDisk, ends_by}
@@ -94,6 +94,14 @@ own_text start (a ∷ answers) = ap (λ (bs : List ℕ). text_of (own start a) +
 one_text : (p : Printed) → printed_text (p ∷ []) ≡ printed_text_of p
 one_text p = append-nil (printed_text_of p)
 
+-- ---- what is printed
+
+pub adds_none : (x : SinkState) → Adds x x []
+adds_none x = (appends_none x.taken, refl)
+
+adds_then : (a b c : SinkState) (xs ys : List ℕ) → Adds a b xs → Adds b c ys → Adds a c (xs ++ ys)
+adds_then a b c xs ys first next = (appends_then a.taken b.taken c.taken xs ys first.0 next.0, next.1 ∙ first.1)
+
 -- ---- the relation then
 
 module _ (share disks : ℕ) (r : Reader) (chosen : ℕ) (tallies : List Tally) (a : SourceState) (x : SinkState) (s : SourceState) (b : SinkState) (e : List Event) (came : CameMany share disks r chosen tallies a x s b e) where
@@ -117,11 +125,11 @@ module _ (share disks : ℕ) (r : Reader) (chosen : ℕ) (tallies : List Tally) 
       ∙ ap (λ c. c * share) (take_all 0 rs ∙ sym came.choice)
 
   -- more was printed
-  said_more : (y : SinkState) (more : List Event) → Appends x.taken y.taken (printed_text (events_printed share disks rs ls bs more)) → Appends b.taken y.taken (printed_text (script_printed share disks came.many (e ++ more)))
+  said_more : (y : SinkState) (more : List Event) → Adds x y (printed_text (events_printed share disks rs ls bs more)) → Adds b y (printed_text (script_printed share disks came.many (e ++ more)))
   said_more y more appends =
-      subst (Appends b.taken y.taken)
+      subst (Adds b y)
       (sym (ap printed_text (events_printed-append share disks rs [] [] e more) ∙ flat_map-append printed_text_of (script_printed share disks came.many e) (events_printed share disks rs ls bs more)))
-      (appends_then b.taken x.taken y.taken (printed_text (script_printed share disks came.many e)) (printed_text (events_printed share disks rs ls bs more)) came.said appends)
+      (adds_then b x y (printed_text (script_printed share disks came.many e)) (printed_text (events_printed share disks rs ls bs more)) came.said appends)
 
   lines_quiet : (more : List Event) → lines_given more ≡ [] → lines_given (e ++ more) ≡ ls
   lines_quiet more none = lines_given-append e more ∙ ap (λ (l : List Line). ls ++ l) none ∙ append-nil ls
@@ -143,7 +151,7 @@ module _ (share disks : ℕ) (r : Reader) (chosen : ℕ) (tallies : List Tally) 
   }
 
   -- no line was given, and no block was taken
-  came_quiet : (y : SinkState) (more : List Event) → lines_given more ≡ [] → touched_in more ≡ [] → Appends x.taken y.taken (printed_text (events_printed share disks rs ls bs more)) → CameMany share disks r chosen tallies a y s b (e ++ more)
+  came_quiet : (y : SinkState) (more : List Event) → lines_given more ≡ [] → touched_in more ≡ [] → Adds x y (printed_text (events_printed share disks rs ls bs more)) → CameMany share disks r chosen tallies a y s b (e ++ more)
   came_quiet y more none_given none_touched appends = record {
     many = came.many;
     size = came.size;
@@ -156,7 +164,7 @@ module _ (share disks : ℕ) (r : Reader) (chosen : ℕ) (tallies : List Tally) 
     said = said_more y more appends;
   }
 
-  pub came_none : (y : SinkState) → Appends x.taken y.taken [] → CameMany share disks r chosen tallies a y s b (e ++ [])
+  pub came_none : (y : SinkState) → Adds x y [] → CameMany share disks r chosen tallies a y s b (e ++ [])
   came_none y appends = came_quiet y [] refl refl appends
 
   -- what is printed for answers
@@ -165,12 +173,12 @@ module _ (share disks : ℕ) (r : Reader) (chosen : ℕ) (tallies : List Tally) 
       ap printed_text (told_each share disks rs ls bs answers none ∙ ap (λ start. map (λ o. Told (own start o)) answers) start_now)
       ∙ own_text (chosen * share) answers
 
-  pub came_answers : (y : SinkState) (answers : List Answer) → HasNoEnd answers → Appends x.taken y.taken (text (map (own (chosen * share)) answers)) → CameMany share disks r chosen tallies a y s b (e ++ taking answers)
-  came_answers y answers none appends = came_quiet y (taking answers) (lines_given-taking answers) (touched_in-taking answers) (subst (Appends x.taken y.taken) (sym (answers_text answers none)) appends)
+  pub came_answers : (y : SinkState) (answers : List Answer) → HasNoEnd answers → Adds x y (text (map (own (chosen * share)) answers)) → CameMany share disks r chosen tallies a y s b (e ++ taking answers)
+  came_answers y answers none appends = came_quiet y (taking answers) (lines_given-taking answers) (touched_in-taking answers) (subst (Adds x y) (sym (answers_text answers none)) appends)
 
-  pub came_took : (y : SinkState) (one : Answer) → Appends x.taken y.taken (printed_text (took_printed share disks (chosen * share) ls bs one)) → CameMany share disks r chosen tallies a y s b (e ++ taking (one ∷ []))
+  pub came_took : (y : SinkState) (one : Answer) → Adds x y (printed_text (took_printed share disks (chosen * share) ls bs one)) → CameMany share disks r chosen tallies a y s b (e ++ taking (one ∷ []))
   came_took y one appends = came_quiet y (taking (one ∷ [])) refl refl
-      (subst (Appends x.taken y.taken)
+      (subst (Adds x y)
       (ap (λ start. printed_text (took_printed share disks start ls bs one)) (sym start_now) ∙ ap printed_text (sym (append-nil (took_printed share disks (start_at share rs (length ls)) ls bs one)))) appends)
 
   -- a block was taken
@@ -186,7 +194,7 @@ module _ (share disks : ℕ) (r : Reader) (chosen : ℕ) (tallies : List Tally) 
         one_disk = subst (AreOnOneDisk share) (sym (lines_quiet event refl)) came.one_disk;
         tally = subst (λ (w : List BlockWrite). AreTalliesOf share 0 (lines_given (e ++ event)) w more) (sym (touched_in-append e event))
             (subst (λ (l : List Line). AreTalliesOf share 0 l (bs ++ (record { lba = lba; block = block }) ∷ []) more) (sym (lines_quiet event refl)) are);
-        said = said_more x event (appends_none x.taken);
+        said = said_more x event (adds_none x);
       }
 
   -- ---- a line more
@@ -220,7 +228,7 @@ module _ (share disks : ℕ) (r : Reader) (chosen : ℕ) (tallies : List Tally) 
 
   pub came_gave : (m : ManyLine) (l : Line) (q : Reader) (now : ℕ) (more : List Tally) (y : SinkState) → q.size ≡ r.size → CameTo (coded disks) s (map code came.many ++ code m ∷ []) a q
       → volume_reading share (chosen_in 0 rs) (accepted_many m) ≡ accepted l → now ≡ chosen_after (chosen_in 0 rs) (accepted_many m) → IsOnOneDisk share l → AreTalliesOf share 0 (ls ++ l ∷ []) bs more
-      → Appends x.taken y.taken (printed_text (next_printed true (choice_in (accepted_many m ∷ [])))) → CameMany share disks q now more a y s b (e ++ Gave l ∷ [])
+      → Adds x y (printed_text (next_printed true (choice_in (accepted_many m ∷ [])))) → CameMany share disks q now more a y s b (e ++ Gave l ∷ [])
   came_gave m l q now more y size read is now_is on are appends = record {
     many = came.many ++ m ∷ [];
     size = size ∙ came.size;
@@ -230,7 +238,7 @@ module _ (share disks : ℕ) (r : Reader) (chosen : ℕ) (tallies : List Tally) 
     one_disk = subst (AreOnOneDisk share) (sym (lines_then l)) (on_one-then share ls (l ∷ []) came.one_disk (on, tt));
     tally = subst (λ (w : List BlockWrite). AreTalliesOf share 0 (lines_given (e ++ Gave l ∷ [])) w more) (sym (blocks_quiet (Gave l ∷ []) refl))
         (subst (λ (xs : List Line). AreTalliesOf share 0 xs bs more) (sym (lines_then l)) are);
-    said = subst (Appends b.taken y.taken) (sym printed) (appends_then b.taken x.taken y.taken (printed_text (script_printed share disks came.many e)) (printed_text (next_printed true (choice_in (accepted_many m ∷ [])))) came.said appends);
+    said = subst (Adds b y) (sym printed) (adds_then b x y (printed_text (script_printed share disks came.many e)) (printed_text (next_printed true (choice_in (accepted_many m ∷ [])))) came.said appends);
   }
     where
       printed : printed_text (script_printed share disks (came.many ++ m ∷ []) (e ++ Gave l ∷ [])) ≡ printed_text (script_printed share disks came.many e) ++ printed_text (next_printed true (choice_in (accepted_many m ∷ [])))
@@ -245,12 +253,12 @@ module _ (share disks : ℕ) (r : Reader) (chosen : ℕ) (tallies : List Tally) 
   pub came_plain : (l : Line) (q : Reader) (more : List Tally) → q.size ≡ r.size → CameTo (coded disks) s (map code came.many ++ code (Plain l) ∷ []) a q → IsRunnable share l
       → AreTalliesOf share 0 (ls ++ shifted (chosen * share) l ∷ []) bs more → CameMany share disks q chosen more a x s b (e ++ Gave (shifted (chosen * share) l) ∷ [])
   came_plain l q more size read runnable are = came_gave (Plain l) (shifted (chosen * share) l) q chosen more x size read
-      (ap (λ c. accepted (shifted (c * share) l)) (sym came.choice)) came.choice (on_one_disk share chosen l runnable) are (appends_none x.taken)
+      (ap (λ c. accepted (shifted (c * share) l)) (sym came.choice)) came.choice (on_one_disk share chosen l runnable) are (adds_none x)
 
   -- a line that chooses a disk
   pub came_disk : (disk : ℕ) (q : Reader) (y : SinkState) → q.size ≡ r.size → CameTo (coded disks) s (map code came.many ++ code (Disk disk) ∷ []) a q
-      → AreTalliesOf share 0 (ls ++ line.Nothing ∷ []) bs tallies → Appends x.taken y.taken (printed_text_of (Chose disk)) → CameMany share disks q disk tallies a y s b (e ++ Gave line.Nothing ∷ [])
-  came_disk disk q y size read are appends = came_gave (Disk disk) line.Nothing q disk tallies y size read refl refl tt are (subst (Appends x.taken y.taken) (sym (one_text (Chose disk))) appends)
+      → AreTalliesOf share 0 (ls ++ line.Nothing ∷ []) bs tallies → Adds x y (printed_text_of (Chose disk)) → CameMany share disks q disk tallies a y s b (e ++ Gave line.Nothing ∷ [])
+  came_disk disk q y size read are appends = came_gave (Disk disk) line.Nothing q disk tallies y size read refl refl tt are (subst (Adds x y) (sym (one_text (Chose disk))) appends)
 
   -- ---- the sink failed
 
@@ -268,7 +276,7 @@ module _ (share disks : ℕ) (r : Reader) (chosen : ℕ) (tallies : List Tally) 
           subst (λ (t : List ℕ). n < length t) here less,
           subst (λ (t : List ℕ). Appends b.taken y.taken (printed_text (script_printed share disks (came.many ++ Disk disk ∷ []) e) ++ take n t)) here
               (subst (λ (ps : List Printed). Appends b.taken y.taken (printed_text ps ++ take n (printed_text_of (Chose disk)))) (sym (printed_before (Disk disk)))
-              (appends_then b.taken x.taken y.taken (printed_text (script_printed share disks came.many e)) (take n (printed_text_of (Chose disk))) came.said appends)),
+              (appends_then b.taken x.taken y.taken (printed_text (script_printed share disks came.many e)) (take n (printed_text_of (Chose disk))) came.said.0 appends)),
         );
       }
 
@@ -299,7 +307,7 @@ module _ (share disks : ℕ) (r : Reader) (chosen : ℕ) (tallies : List Tally) 
           subst (λ (t : List ℕ). n < length t) here less,
           subst (λ (t : List ℕ). Appends b.taken y.taken (printed_text (script_printed share disks came.many (e ++ more)) ++ take n t)) here
               (subst (Appends b.taken y.taken) (sym (append_assoc (printed_text (script_printed share disks came.many e)) own_answers part) ∙ ap (λ (t : List ℕ). t ++ part) (sym before))
-              (appends_then b.taken x.taken y.taken (printed_text (script_printed share disks came.many e)) (own_answers ++ part) came.said appends)),
+              (appends_then b.taken x.taken y.taken (printed_text (script_printed share disks came.many e)) (own_answers ++ part) came.said.0 appends)),
         );
       }
 
@@ -314,7 +322,7 @@ came_first share disks r tallies a x size read are = record {
   choice = refl;
   one_disk = tt;
   tally = are;
-  said = appends_none x.taken;
+  said = adds_none x;
 }
 
 -- ---- the blocks of the disks
@@ -355,7 +363,7 @@ module _ (share disks : ℕ) (r : Reader) (chosen : ℕ) (tallies : List Tally) 
   ends_took (Err failed) prints = tt
   ends_took (Ok done) prints = λ s b e came.
       came_took share disks r chosen tallies a x s b e came y (one e)
-      (subst (λ (ps : List Printed). Appends x.taken y.taken (printed_text ps)) (sym (took_end share disks (chosen * share) (lines_given e) (touched_in e) (one e) (ends e))) (prints (lines_given e) (touched_in e) came.tally).done)
+      (subst (λ (ps : List Printed). Adds x y (printed_text ps)) (sym (took_end share disks (chosen * share) (lines_given e) (touched_in e) (one e) (ends e))) (prints (lines_given e) (touched_in e) came.tally).done)
 
   pub ends_broke : (result : Result (Unit {0}) Ended) → PrintsEnds result → IsErrOf result ended.Sink → (s : SourceState) (b : SinkState) (e : List Event) → CameMany share disks r chosen tallies a x s b e → BrokeMany share disks y s b e (Took (one e))
   ends_broke result prints is s b e came =

@@ -1,7 +1,6 @@
 -- A script over several disks: what it prints for its events, and the relation that holds of it
 use Rattle.std.proofs.Common.{arith}
 use Rattle.std.specs.Prelude.{◌≡◌, ◌<◌, ◌-◌, ◌^◌, ℕ, suc, true, List, [], ◌∷◌, ◌++◌, length, map, Some, Ok, Err}
-use Rattle.std.specs.Io.KnownBytes.{Appends}
 use Rattle.ft_base.specs.PlainDisk.{BlockWrite}
 use Rattle.ft_base.specs.StreamState.{SinkState, SourceState}
 use Rattle.trace_model.specs.declared.answer.Answer.{Answer}
@@ -18,6 +17,7 @@ use Rattle.many_disks.specs.declared.line.ManyLine.{ManyLine}
 use Rattle.many_disks.specs.declared.line.ManyLine.TheVariants.{Disk, Plain}
 use Rattle.many_disks.specs.declared.tally.Tally.{Tally}
 use Rattle.many_disks.specs.Lines.{ManyReading, chosen_in, many_of, many_readings}
+use Rattle.many_disks.specs.Printing.{Adds}
 use Rattle.many_disks.specs.Readings.{volume_readings}
 use Rattle.many_disks.specs.Tally.{AreOnOneDisk, AreTalliesOf, ends_by}
 use Rattle.many_disks.specs.Told.{Printed, PrintedPart, choice_at, next_printed, own, printed_text, start_at}
@@ -84,7 +84,7 @@ pub record CameMany (share disks : ℕ) (r : Reader) (chosen : ℕ) (tallies : L
   pub choice : chosen ≡ chosen_in 0 (map accepted_many many)
   pub one_disk : AreOnOneDisk share (lines_given e)
   pub tally : AreTalliesOf share 0 (lines_given e) (touched_in e) tallies
-  pub said : Appends b.taken taken.taken (printed_text (script_printed share disks many e))
+  pub said : Adds b taken (printed_text (script_printed share disks many e))
 
 -- these lines come first in that source, and what they and their answers say was printed. Then the sink failed within
 -- what is printed for one more event

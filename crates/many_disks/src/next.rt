@@ -1,5 +1,5 @@
 //! What comes next in a source.
-ghost use Rattle.std.specs.Prelude.{◌≡◌, ◌≤◌, ◌<◌, ℕ, List, true, false, Some, Ok, IfErr, IfOk, length, map};
+ghost use Rattle.std.specs.Prelude.{◌≡◌, ◌≢◌, ◌≤◌, ◌<◌, ℕ, List, true, false, Some, Ok, IfErr, IfOk, length, map};
 ghost use Rattle.ft_base.specs.Count.{Rose};
 ghost use Rattle.ft_base.specs.StreamState.{SourceState};
 ghost use Rattle.trace_model.specs.declared.line.Line.{Line};
@@ -56,6 +56,7 @@ pub(crate) fn seek_line<I: Source>(
         → CameTo (coded disks) s lines (I.state source.new) reader.new
         → RefusesNext (coded disks reader.new.size) s (I.state source.new) lines armed cause }
     ensures fault { result ≡ Next.Failed → Rose (I.state source.old).faults (I.state source.new).faults }
+    ensures told { result ≢ Next.Failed → (I.state source.new).faults ≡ (I.state source.old).faults }
     ensures failed { result ≡ Next.Failed → (s : SourceState) → (lines : List Line) → CameTo (coded disks) s lines (I.state source.new) reader.new
         → ReadsBy (coded disks reader.new.size) s (I.state source.new) (length lines) (map accepted lines) false }
     ensures bytes { reader.new.bytes ≡ reader.old.bytes }

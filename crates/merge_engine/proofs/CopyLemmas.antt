@@ -19,7 +19,7 @@ use Rattle.cache_model.specs.declared.entry.Entry.{Entry}
 use Rattle.cache_model.specs.Records.{Entries}
 use Rattle.cache_model.specs.Entries.{IsMap, InPool}
 use Rattle.cache_model.specs.Loading.{is_whole, load}
-use Rattle.mapping.specs.Counts.{place_and_mark}
+use Rattle.mapping.specs.Counts.{Owns, place_and_mark}
 use Rattle.cache_model.specs.declared.format.SpareKind.TheVariants.{Filler}
 use Rattle.cache_model.specs.Spelling.{spelled_spare, spare_fields}
 use Rattle.cache_model.specs.CacheList.{CacheList}
@@ -78,29 +78,26 @@ pub record IsReadable (contents : Contents) (at : Place) : Type 0 where
   pub page : at.page < contents.shape.pages
   pub whole : is_whole (contents.flash.page at) ≡ true
 
-pub readable : (parts : Parts) (contents : Contents) (lba : ℕ) (from : Place) (dirty : Bool) → PartsAgree parts contents → Some (from, dirty) ≡ option_map place_and_mark (get parts.map.entries lba) → IsReadable contents from
-readable parts contents lba from dirty agree is =
+pub readable : (parts : Parts) (contents : Contents) (at : Place) → PartsAgree parts contents → (a : ℕ) × Owns parts.map.entries at a → IsReadable contents at
+readable parts contents at agree owned =
     let s = agree.sound in
-    let x = placed_entry (get parts.map.entries lba) from dirty is in
-    let pool : InPool parts.geometry x.0.place = subst (λ (g : Geometry). InPool g x.0.place) s.of_one.log ((current_map parts.log contents.flash.page parts.map.entries s.current).in_pool lba x.0 x.1) in
+    let x = owned.1 in
+    let pool : InPool parts.geometry x.0.place = subst (λ (g : Geometry). InPool g x.0.place) s.of_one.log ((current_map parts.log contents.flash.page parts.map.entries s.current).in_pool owned.0 x.0 x.1) in
     subst (λ (p : Place). IsReadable contents p) x.2 (record {
       block = let below = pool.below in let most = s.shape.blocks in omega arith;
       page = subst (λ n. x.0.place.page < n) (sym s.shape.pages) pool.page;
-      whole = s.whole.whole lba x.0 x.1;
+      whole = s.whole.whole owned.0 x.0 x.1;
     })
 
 -- a page that is whole isn't one that is blank
 whole_apart : (page : Place → Page) (at to : Place) → is_whole (page at) ≡ true → page to ≡ Blank → at ≡ to → ⊥
 whole_apart page at to whole blank same = let both : is_whole Blank ≡ true = ap is_whole (sym blank) ∙ ap (λ q. is_whole (page q)) (sym same) ∙ whole in absurd (cc)
 
-pub copy_is : (parts : Parts) (old new : Contents) (agree : PartsAgree parts old) (lba : ℕ) (from to : Place) (dirty : Bool) (block : Block) (spare : Spare) → IsNextPage to old.flash → IsBlankAhead old → Some (from, dirty) ≡ option_map place_and_mark (get parts.map.entries lba)
-    → old.flash.page from ≡ Whole block spare → new.flash ≡ after_program old.flash to block spare → (e : Entry) → get parts.map.entries lba ≡ Some e → IsCopyOf new.flash.page e.place to
-copy_is parts old new agree lba from to dirty block spare ready ahead is read ok e there =
-    let x = placed_entry (get parts.map.entries lba) from dirty is in
-    let same : x.0 ≡ e = let both : Some x.0 ≡ Some e = sym x.1 ∙ there in cc in
-    let here : e.place ≡ from = ap (λ (y : Entry). y.place) (sym same) ∙ x.2 in
-    let apart = whole_apart old.flash.page e.place to (agree.sound.whole.whole lba e there) (ahead to to.page ready (omega arith)) in
-    let stays : new.flash.page e.place ≡ Whole block spare = ap (λ (f : Flash). f.page e.place) ok ∙ set_page-other old.flash.page to e.place (Whole block spare) apart ∙ ap old.flash.page here ∙ read in
+pub copy_is : (parts : Parts) (old new : Contents) (agree : PartsAgree parts old) (from to : Place) (block : Block) (spare : Spare) → IsNextPage to old.flash → IsBlankAhead old → (a : ℕ) × Owns parts.map.entries from a
+    → old.flash.page from ≡ Whole block spare → new.flash ≡ after_program old.flash to block spare → IsCopyOf new.flash.page from to
+copy_is parts old new agree from to block spare ready ahead owned read ok =
+    let apart = whole_apart old.flash.page from to (readable parts old from agree owned).whole (ahead to to.page ready (omega arith)) in
+    let stays : new.flash.page from ≡ Whole block spare = ap (λ (f : Flash). f.page from) ok ∙ set_page-other old.flash.page to from (Whole block spare) apart ∙ read in
     record {
       whole = ap is_whole stays;
       copy = ap (λ (f : Flash). f.page to) ok ∙ set_page-here old.flash.page to (Whole block spare) ∙ sym stays;

@@ -7,6 +7,7 @@ pub mod CommitLemmas
 pub mod GroupLemmas
 pub mod ChangeLemmas
 pub mod NoteLemmas
+pub mod PlaceLemmas
 pub mod CopyLemmas
 pub mod AppendLemmas
 pub mod TakeLemmas

@@ -1,7 +1,8 @@
 -- A group that stands in order in the pages of a log block.
-use Rattle.std.proofs.Common.{◌≡◌, ℕ, ◌+◌, ◌*◌, ◌/◌, ◌%◌, ◌<◌, Bool, Some, inl, inr, refl, sym, ◌∙◌, ap, subst, arith}
-use Rattle.std.specs.Option.{option_map}
+use Rattle.std.proofs.Common.{◌≡◌, ℕ, ◌+◌, ◌*◌, ◌/◌, ◌%◌, ◌<◌, Bool, false, cond, Option, None, Some, inl, inr, refl, sym, ◌∙◌, ap, subst, arith}
 use Rattle.std.specs.FinMap.{get}
+use Rattle.std.proofs.lemmas.Bool.{cases_Bool}
+use Rattle.std.proofs.lemmas.Option.{none-some}
 use Rattle.std.proofs.lemmas.Nat.{div-add-mod', div-mul-add, mod_below}
 use Rattle.ft_base.specs.declared.geometry.Geometry.{Geometry}
 use Rattle.ft_base.specs.declared.block.Place.{Place}
@@ -9,13 +10,16 @@ use Rattle.ft_base.specs.declared.block.Page.{Page}
 use Rattle.cache_model.specs.declared.entry.Entry.{Entry}
 use Rattle.cache_model.specs.Records.{Entries}
 use Rattle.cache_model.specs.Entries.{IsMap}
-use Rattle.mapping.specs.Counts.{Owns, place_and_mark}
+use Rattle.mapping.specs.Counts.{Owns, place_and_mark, place_if_logged}
+use Rattle.mapping.specs.Numbers.{IsNoDataBlock}
+use Rattle.block_pool.specs.Pool.{role_of}
 use Rattle.log_blocks.specs.Logs.{LogBlocksValue, IsInUse, released}
 use Rattle.merge_engine.specs.declared.parts.Parts.{Parts}
+use Rattle.merge_engine.specs.Agreement.{RolesAgree}
 use Rattle.merge_engine.specs.Merges.{moved}
 use Rattle.merge_engine.specs.Steps.{HasFillers}
 use Rattle.merge_engine.specs.Switch.{CanSwitch, IsInOrder, IsSwitched, LogsStayOrLose, LogsStayOrSwitch}
-use Rattle.merge_engine.proofs.CopyLemmas.{placed_entry}
+use Rattle.merge_engine.proofs.FollowLemmas.{not_data_log}
 use Rattle.merge_engine.proofs.GaveLemmas.{dropped_was}
 use Rattle.merge_engine.proofs.GiveBackLemmas.{not_in_use, was_in_use}
 use Rattle.merge_engine.proofs.MovedLemmas.{moved_here, dropped}
@@ -126,15 +130,37 @@ module _ (block : ℕ) (old mid : LogBlocksValue) where
 
 -- ---- the log block that is looked for
 
+-- the entry of an address in a log block
+pub logged_entry : (o : Option Entry) (at : Place) (dirty : Bool) → Some (at, dirty) ≡ place_if_logged o → (e : Entry) × (o ≡ Some e) × (e.place ≡ at) × (e.block_mapped ≡ false)
+logged_entry None at dirty is = absurd (cc)
+logged_entry (Some e) at dirty is = elim (cases_Bool e.block_mapped) [
+  | inl t ↦ absurd (none-some (at, dirty) (sym (is ∙ ap (λ b. cond b None (Some (place_and_mark e))) t)))
+  | inr f ↦
+      let both : Some (at, dirty) ≡ Some (place_and_mark e) = is ∙ ap (λ b. cond b None (Some (place_and_mark e))) f in
+      let same : (at, dirty) ≡ place_and_mark e = cc in
+      (e, refl, sym (ap (λ (x : Place × Bool). x.0) same), f)
+]
+
+-- an address that stands in no log block doesn't have a page of one
+pub none_owned : (m : Entries) (at : Place) (a : ℕ) → IsNoDataBlock m at.block → None ≡ place_if_logged (get m a) → Owns m at a → ⊥
+none_owned m at a no_data is owns = elim (cases_Bool owns.0.block_mapped) [
+  | inl t ↦ no_data a owns.0 owns.1 t (ap (λ (p : Place). p.block) owns.2)
+  | inr f ↦ absurd (none-some (place_and_mark owns.0) (is ∙ ap place_if_logged owns.1 ∙ ap (λ b. cond b None (Some (place_and_mark owns.0))) f))
+]
+
+-- a log block is no data block
+pub log_no_data : (parts : Parts) → RolesAgree parts → (b : ℕ) → IsInUse parts.log_blocks b → IsNoDataBlock parts.map.entries b
+log_no_data parts roles b used = λ a e is mapped here.
+    let in_pool = roles.in_pool b used in
+    not_data_log (role_of parts.pool b) ((roles.data_blocks b in_pool).1 (a, e, is, mapped, here)) ((roles.log_blocks b in_pool).1 used)
+
 module _ (parts : Parts) (group block : ℕ) (can : CanSwitch parts group block) where
   -- the first address of the group stands at the first page of the block
-  first_at : Owns parts.map.entries (record { block = block; page = 0 }) (group * parts.geometry.p)
+  pub first_at : Owns parts.map.entries (record { block = block; page = 0 }) (group * parts.geometry.p)
   first_at =
       let some : 0 < parts.geometry.p = omega (arith, parts.geometry.in_range.p_low) in
       let number : group * parts.geometry.p + 0 ≡ group * parts.geometry.p = omega arith in
       subst (λ k. Owns parts.map.entries (record { block = block; page = 0 }) k) number (can.in_order 0 some)
 
-  pub block_is : (at : Place) (dirty : Bool) → Some (at, dirty) ≡ option_map place_and_mark (get parts.map.entries (group * parts.geometry.p)) → at.block ≡ block
-  block_is at dirty is =
-      let x = placed_entry (get parts.map.entries (group * parts.geometry.p)) at dirty is in
-      ap (λ (p : Place). p.block) (sym x.2 ∙ one_place parts.map.entries (group * parts.geometry.p) x.0 (record { block = block; page = 0 }) x.1 first_at)
+  pub block_is : (e : Entry) → get parts.map.entries (group * parts.geometry.p) ≡ Some e → e.place.block ≡ block
+  block_is e is = ap (λ (p : Place). p.block) (one_place parts.map.entries (group * parts.geometry.p) e (record { block = block; page = 0 }) is first_at)

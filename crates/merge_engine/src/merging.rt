@@ -172,11 +172,12 @@ fn put_group(cache: &mut Parts, group: u64, block: u32)
     ensures stays { (contents : Contents) → IsCopied cache.old.geometry cache.old.map.entries group block contents.flash.page
         → StaysOn cache.old cache.new contents }
 {
+    let sets = cache.map.page_sets(group);
     let change = Record::SetGroup {
         group,
         block,
-        present: cache.map.held_bits(group),
-        dirty: cache.map.dirty_bits(group),
+        present: sets.held,
+        dirty: sets.dirty,
     };
     note(cache, &change, group);
     cache.pool.set_role(block, Role::Data);

@@ -6,6 +6,7 @@ ghost use Rattle.ft_media.specs.Media.{program_counted};
 ghost use Rattle.ft_media.specs.Drives.{OnlyDrives};
 ghost use Rattle.cache_model.specs.Entries.{IsMap};
 ghost use Rattle.mapping.specs.Counts.{Owns};
+ghost use Rattle.mapping.specs.Numbers.{IsNoDataBlock};
 ghost use Rattle.log_blocks.specs.Logs.{released};
 ghost use Rattle.silent_evict.specs.Candidates.{IsGroupHeld};
 ghost use Rattle.merge_engine.specs.Agreement.{AreOfOne, RolesAgree};
@@ -30,22 +31,19 @@ pub(crate) fn log_block_in_order(cache: &Parts, group: u64) -> Option<u32>
     ensures none { IfNone result (CannotSwitch cache.now group) }
 {
     let first = group * cache.geometry.p as u64;
-    let Some((at, _)) = cache.map.place(first) else {
+    let Some((at, _)) = cache.map.logged_place(first) else {
         return None;
     };
-    if cache.pool.role(at.block) != Role::Log {
-        return None;
-    }
     if !are_in_order(cache, first, at.block) {
         return None;
     }
     Some(at.block)
 }
 
-/// Whether the addresses from this one on stand in order in the pages of an erase block.
+/// Whether the addresses from this one on stand in order in the pages of a log block.
 fn are_in_order(cache: &Parts, first: u64, block: u32) -> bool
     requires first { first ≤ 2 ^ 40 }
-    ensures { IsTrue result ↔ IsInOrderUpTo cache.now.map.entries first block cache.now.geometry.p }
+    ensures { IsNoDataBlock cache.now.map.entries block → (IsTrue result ↔ IsInOrderUpTo cache.now.map.entries first block cache.now.geometry.p) }
 {
     for page in 0..cache.geometry.p {
         let stands = stands_at(cache, first + page as u64, Place { block, page });
@@ -56,11 +54,11 @@ fn are_in_order(cache: &Parts, first: u64, block: u32) -> bool
     true
 }
 
-/// Whether the block of an address stands at a page.
+/// Whether the block of an address stands at a page of a log block.
 fn stands_at(cache: &Parts, lba: u64, at: Place) -> bool
-    ensures { IsTrue result ↔ Owns cache.now.map.entries at lba }
+    ensures { IsNoDataBlock cache.now.map.entries at.block → (IsTrue result ↔ Owns cache.now.map.entries at lba) }
 {
-    match cache.map.place(lba) {
+    match cache.map.logged_place(lba) {
         Some((place, _)) => place == at,
         None => false,
     }
@@ -115,11 +113,12 @@ fn switch_block(cache: &mut Parts, group: u64, block: u32)
     ensures next { cache.new.log.next ≡ cache.old.log.next }
     ensures stays { (contents : Contents) → StaysOn cache.old cache.new contents }
 {
+    let sets = cache.map.page_sets(group);
     let change = Record::SetGroup {
         group,
         block,
-        present: cache.map.held_bits(group),
-        dirty: cache.map.dirty_bits(group),
+        present: sets.held,
+        dirty: sets.dirty,
     };
     note(cache, &change, group);
     cache.log_blocks.release(block);

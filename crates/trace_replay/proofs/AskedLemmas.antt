@@ -32,6 +32,9 @@ at_some {A = A} P o x is holds = subst (λ (k : Option A). IfSome k P) is holds
 pub err_also : (e x : Ended) → IsErrOf {T = Asked} (Err e) x → IsErrOf {T = Unit {0}} (Err e) x
 err_also e x is = let same : e ≡ x = cc in ap Err same
 
+pub err_asked : (e x : Ended) → IsErrOf {T = Unit {0}} (Err e) x → IsErrOf {T = Asked} (Err e) x
+err_asked e x is = let same : e ≡ x = cc in ap Err same
+
 -- ---- what was asked
 
 total_is : (m n : ℕ) (count : Option ℕ) → m ≡ n → IsTotal m count → IsTotal n count

@@ -31,7 +31,7 @@ use Rattle.trace_replay.specs.Said.{Said, SaidPart, Takes}
 use Rattle.trace_gen.proofs.MadeLemmas.{length-lines_made}
 use Rattle.trace_replay.proofs.EndLineLemmas.{no_line}
 use Rattle.trace_replay.proofs.GivenLemmas.{answers_in-append, lines_given-append}
-use Rattle.trace_replay.proofs.SaidLemmas.{said_none, said_then, said_part-then}
+use Rattle.trace_replay.proofs.SaidLemmas.{said_none, said_on, said_part-then, said_then}
 use Rattle.trace_replay.proofs.ToldLemmas.{said_of}
 
 -- ---- a line of a made trace
@@ -144,10 +144,9 @@ ends_told : (run : List Ran) (answers : List Answer) (more : List Event) → ans
 ends_told run answers more is = said_of is_end no_line run answers more is
 
 -- if the sink took this text in the end
-pub told_end : (x y : SinkState) (taken : Option (List ℕ)) → y.taken ≡ taken → (run : List Ran) (answers : List Answer) (more : List Event) → answers_in more ≡ answers → Said x y (ends_in (answers_in (events_of run ++ more)))
-    → Appends x.taken taken (text (ends_in answers))
-told_end x y taken same run answers more is said =
-    subst (λ (z : Option (List ℕ)). Appends x.taken z (text (ends_in answers))) same (subst (λ (r : List Answer). Said x y r) (ends_told run answers more is) said)
+pub told_end : (x y : SinkState) (taken : Option (List ℕ)) (faults : ℕ) → y.taken ≡ taken → y.faults ≡ faults → (run : List Ran) (answers : List Answer) (more : List Event) → answers_in more ≡ answers → Said x y (ends_in (answers_in (events_of run ++ more)))
+    → Appends x.taken taken (text (ends_in answers)) × (faults ≡ x.faults)
+told_end x y taken faults same_taken same_faults run answers more is said = said_on x y taken faults same_taken same_faults _ (subst (λ (r : List Answer). Said x y r) (ends_told run answers more is) said)
 
 -- a part of one more answer, if the sink failed
 abbrev pub BrokenBy : SinkState → SinkState → List Ran → List Answer → Option Answer → Type 0

@@ -147,7 +147,7 @@ module _ {P : Type 0} (tells : P → ScriptState) (came : SourceState → SinkSt
           taken = takes_after tells came broke knows x y z (stopped cuts) said e part.front part.rest part.taken;
         };
         proper = λ empty. absurd (ends.proper empty);
-        stops = stops_saying e cuts a b part.front ends.only (omega arith) (λ below. let rose = runs.risen below in omega arith)
+        stops = stops_saying e cuts a b part.front ends.only (omega arith) (λ below. let rose = runs.risen below in omega arith) runs.none_failed
             (plain_stops e y z a b l cuts kept lost (disk_without lost run) runs fits cut ends);
       }
 

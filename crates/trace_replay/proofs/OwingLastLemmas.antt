@@ -265,7 +265,7 @@ module _ {P : Type 0} (tells : P → ScriptState) (came : SourceState → SinkSt
           taken = takes_through tells came broke knows x y z n addresses (disk_without lost run) first (touched_after run) e part.front part.rest (last ∷ []) (subst (λ (r : List Answer). NoEnd r) part.both (none_losses lost)) part.taken;
         };
         proper = λ empty. empty_last part.rest [] last empty;
-        stops = stops_saying e n a c part.front ends.only (front_stops part.front part.rest part.both) cut.risen cut.stops;
+        stops = stops_saying e n a c part.front ends.only (front_stops part.front part.rest part.both) cut.risen cut.none_failed cut.stops;
       }
     where
       front_stops : (front rest : List Answer) → lost_told lost ≡ front ++ rest → stops_in front ≡ 0
@@ -298,5 +298,5 @@ module _ {P : Type 0} (tells : P → ScriptState) (came : SourceState → SinkSt
           taken = of_run e x z run lost addresses same (stopped n ++ lost_told lost) (last ∷ []) why.2;
         };
         proper = λ empty. cc;
-        stops = stops_saying e n a c (lost_told lost) why.0 (none_lost lost) cut.risen cut.stops;
+        stops = stops_saying e n a c (lost_told lost) why.0 (none_lost lost) cut.risen cut.none_failed cut.stops;
       }

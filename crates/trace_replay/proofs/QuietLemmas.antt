@@ -22,6 +22,7 @@ use Rattle.trace_replay.specs.Forms.{Form, ReadsBy, Says}
 use Rattle.trace_replay.specs.Quiet.{given_heard, heard, is_heard, lines_heard}
 use Rattle.trace_replay.specs.Said.{Said, SaidPart}
 use Rattle.trace_replay.specs.Stream.{BrokeStream, CameStream}
+use Rattle.trace_replay.proofs.SaidLemmas.{said_on}
 use Rattle.trace_replay.proofs.ToldLemmas.{SkipsLines, none_lost, none_stopped, said_of}
 
 -- ---- the events that are heard
@@ -96,10 +97,9 @@ refusals_heard (Touched lba block ∷ e) = refusals_heard e
 refusals_told : (run : List Ran) (answers : List Answer) (more : List Event) → answers_in more ≡ answers → answers_in (heard (events_of run ++ more)) ≡ refusals_in answers
 refusals_told run answers more is = refusals_heard (events_of run ++ more) ∙ said_of is_refusal no_line run answers more is
 
-pub told_refusal : (x y : SinkState) (taken : Option (List ℕ)) → y.taken ≡ taken → (run : List Ran) (answers : List Answer) (more : List Event) → answers_in more ≡ answers → Said x y (answers_in (heard (events_of run ++ more)))
-    → Appends x.taken taken (text (refusals_in answers))
-told_refusal x y taken same run answers more is said =
-    subst (λ (z : Option (List ℕ)). Appends x.taken z (text (refusals_in answers))) same (subst (λ (r : List Answer). Said x y r) (refusals_told run answers more is) said)
+pub told_refusal : (x y : SinkState) (taken : Option (List ℕ)) (faults : ℕ) → y.taken ≡ taken → y.faults ≡ faults → (run : List Ran) (answers : List Answer) (more : List Event) → answers_in more ≡ answers → Said x y (answers_in (heard (events_of run ++ more)))
+    → Appends x.taken taken (text (refusals_in answers)) × (faults ≡ x.faults)
+told_refusal x y taken faults same_taken same_faults run answers more is said = said_on x y taken faults same_taken same_faults _ (subst (λ (r : List Answer). Said x y r) (refusals_told run answers more is) said)
 
 -- a part of one more answer, if the sink failed
 abbrev pub BrokenBy : SinkState → SinkState → List Ran → List Answer → Option Answer → Type 0

@@ -35,7 +35,7 @@ use Rattle.trace_replay.specs.Ran.{RunKeepsFrame, IsTallied, IsTallyOf, RanSoFar
 use Rattle.trace_replay.specs.Said.{RoseAtLeast}
 use Rattle.trace_replay.specs.Spends.{IsQuiet, Spent, steps_of}
 use Rattle.trace_replay.specs.Went.{KeepsFrame}
-use Rattle.trace_replay.proofs.CutsLemmas.{counts_none, counts_then}
+use Rattle.trace_replay.proofs.CutsLemmas.{counts_none, counts_then, failed_then, none_failed}
 use Rattle.trace_replay.proofs.SpendsLemmas.{run_more, spent_fresh}
 
 -- ---- how many device writes may still be made
@@ -162,6 +162,7 @@ so_far_none o owes stands s counted v told quiet table held dirty none stood tal
   stops = quiet.unarmed;
   rest = tt;
   risen = λ below. omega arith;
+  none_failed = none_failed s;
   counts = counts_none s.counts;
   programs = λ below. omega arith;
   ready = λ none block ready. ready;
@@ -252,6 +253,7 @@ module _ (o : Told) {owes : List BlockWrite → Type 0} (stands : Image → Plai
     stops = runs.stops ∙ ap (λ (q : List Stop). arming l (drop cuts q)) so_far.stops;
     rest = rest_more run l cuts kept lost a b so_far.stops runs so_far.rest;
     risen = risen_more (cuts_in run) (cuts + cut_count l) first.faults.cuts a.faults.cuts b.faults.cuts so_far.risen runs.risen;
+    none_failed = failed_then first a b so_far.none_failed runs.none_failed;
     counts = counts_then first.counts a.counts b.counts so_far.counts runs.counts;
     programs = risen_more (wrote_in run) (if cuts == 0 then block_count l else 0) first.counts.programs a.counts.programs b.counts.programs so_far.programs (wrote_line l cuts a b runs);
     ready = λ none block ready. runs.ready (omega arith) block (so_far.ready (omega arith) block ready);
@@ -322,7 +324,7 @@ on_frame tells came broke knows x y z a b c first next = on_then tells x y z a b
   counts = next.counts;
   flash = next.flash;
   disk = next.disk;
-  source = next.source;
+  source = (let same = next.source in omega (arith, same));
   sink = next.sink;
   script_lent = next.script_lent;
   size = next.size;

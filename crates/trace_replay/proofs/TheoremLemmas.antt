@@ -42,7 +42,7 @@ use Rattle.trace_replay.specs.Said.{Cuts, RoseAtLeast, Takes, TellsStops, TookPa
 use Rattle.trace_replay.specs.Spends.{IsQuiet, SpendsAtMost, Spent, fresh, steps_after, steps_of, touches_each}
 use Rattle.trace_replay.specs.Theorem.{EndsEarly, EndsPart, EndsRefused, EndsUnread, LeavesLines, LeavesRig, RunsWhole, StandForNext, spent_by}
 use Rattle.trace_replay.proofs.BacksLemmas.{end_reads_few, end_writes_back, end_writes_none, lines_read_no_more, lines_write_back, reads_few, writes_none}
-use Rattle.trace_replay.proofs.CutsLemmas.{counts_none, counts_then}
+use Rattle.trace_replay.proofs.CutsLemmas.{counts_none, counts_then, failed_then}
 use Rattle.trace_replay.proofs.EndLineLemmas.{NoEnd, after_end, after_given, after_nothing, none_front, none_line, none_next, within_end, within_given}
 use Rattle.trace_replay.proofs.FromLemmas.{takes_within}
 use Rattle.trace_replay.proofs.GivenLemmas.{given_left, lines_given-next, lines_given-run, next_left, told_bytes-run}
@@ -238,7 +238,7 @@ module _ (o : Told) {owes : List BlockWrite → Type 0} (stands : Image → Plai
   media_here left = media_older o stands a.contents run left (length recent) so_far.owed.since (λ acked. ap (λ (l : List Recent). length l) (so_far.none acked)) (older_owing owes stands a.contents (length recent) (writes_after run) so_far.owed.owing)
 
   leaves_lines : (left : List Reading) → LeavesLines o stands first a run left
-  leaves_lines left = record { rig = rig_here; media = media_here left; stops = so_far.stops; risen = so_far.risen; ready = so_far.ready }
+  leaves_lines left = record { rig = rig_here; media = media_here left; stops = so_far.stops; risen = so_far.risen; none_failed = so_far.none_failed; ready = so_far.ready }
 
   -- some answer may be given to whatever line comes next
   tells_some : (whole : Bool) (left : List Reading) → (due : List Answer) × MayTell o whole run left due
@@ -273,6 +273,7 @@ module _ (o : Told) {owes : List BlockWrite → Type 0} (stands : Image → Plai
     proper = λ none. none;
     stops = record {
       risen = λ below. let one = so_far.risen below in omega arith;
+      none_failed = λ _. so_far.none_failed;
       only = λ _. refl;
       queue = λ _. so_far.stops;
       fell = (0, omega arith, omega arith, so_far.stops);
@@ -284,6 +285,7 @@ module _ (o : Told) {owes : List BlockWrite → Type 0} (stands : Image → Plai
   stops_then : (e : Ended) (front : List Answer) (b : State) → TellsStops e front 0 a b a.power.stops → TellsStops e front (cuts_in run) first b (armed_after run)
   stops_then e front b tells = record {
     risen = λ below. let two = tells.risen below in let one = so_far.risen (omega arith) in omega arith;
+    none_failed = λ other. failed_then first a b so_far.none_failed (tells.none_failed other);
     only = tells.only;
     queue = λ device. tells.queue device ∙ ap (drop (length front)) so_far.stops;
     fell = let fell = tells.fell in (fell.0, fell.1, fell.2, fell.3 ∙ ap (drop fell.0) so_far.stops);
@@ -526,6 +528,7 @@ module _ (o : Told) {owes : List BlockWrite → Type 0} (stands : Image → Plai
               disk = stood;
               stops = cut.stops ∙ ap (drop cuts) so_far.stops;
               risen = λ below. let two = cut.risen below in let one = so_far.risen (omega arith) in omega arith;
+              none_failed = failed_then first a c so_far.none_failed cut.none_failed;
               ready = λ none block ready. cut.ready (omega arith) block (so_far.ready (omega arith) block ready);
             };
             backs = end_writes_back o run first c w spent;

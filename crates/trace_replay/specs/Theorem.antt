@@ -20,7 +20,7 @@ use Rattle.trace_model.specs.Run.{cuts_in, disk_without, end_answers, lines_of}
 use Rattle.trace_model.specs.SoFar.{MayRemain, MayTell, WasRun, as_ran, begun, disk_within, next_refusal, refusal}
 use Rattle.trace_replay.specs.declared.ended.Ended.{Ended}
 use Rattle.trace_replay.specs.declared.ended.Ended.TheVariants as ended
-use Rattle.trace_replay.specs.Said.{RoseAtLeast, TellsStops, TookPart}
+use Rattle.trace_replay.specs.Said.{NoneFailed, RoseAtLeast, TellsStops, TookPart}
 
 -- what every run leaves, of the lines that were run and the lines that were begun. Power is on, and the rig has the
 -- shape to which it was fitted. No count is lower than before, and a page was programmed for each block of a write
@@ -35,14 +35,15 @@ pub record LeavesRig (o : Told) (first now : State) (run lines : List Ran) : Typ
   pub writes : WritesNone o run lines first.counts.disk_writes now.counts.disk_writes
 
 -- the state after these lines, and this many cuts and lost block writes. Whatever a crash leaves stands for the plain
--- disk. The stops are those that did not cut, and each cut was counted. If there was none, each erase block that was
--- ready is ready
+-- disk. The stops are those that did not cut, and each cut was counted. If there was none, no device failed, and each
+-- erase block that was ready is ready
 pub record Leaves (o : Told) (stands : Image → PlainDisk → Type 0) (first now : State) (run : List Ran) (cuts lost : ℕ) : Type 0 where
   pub rig : LeavesRig o first now run run
   pub fits : FitsEnd o.ack run cuts lost
   pub disk : StandFor stands now.contents (disk_without lost run)
   pub stops : now.power.stops ≡ drop cuts (armed_after run)
   pub risen : RoseAtLeast (cuts_in run + cuts) first.faults.cuts now.faults.cuts
+  pub none_failed : NoneFailed first now
   pub ready : cuts_in run + cuts ≡ 0 → KeepsReady first now
 
 -- the lines that count for the calls of the disk. If writes are on the media only after a flush, a line that cuts power
@@ -57,14 +58,15 @@ StandForNext o stands contents run left = (x : Image) → Now contents x → (lo
     × stands x (disk_within run left lost n)
 
 -- the state after these lines if the next one was not begun. Whatever a crash leaves stands for their plain disk. No
--- stop is gone that did not cut one of them, and each cut was counted. If there was none, each erase block that was
--- ready is ready
+-- stop is gone that did not cut one of them, and each cut was counted. If there was none, no device failed, and each
+-- erase block that was ready is ready
 pub record LeavesLines (o : Told) (stands : Image → PlainDisk → Type 0) (first now : State) (run : List Ran)
     (left : List Reading) : Type 0 where
   pub rig : LeavesRig o first now run run
   pub media : StandForNext o stands now.contents run left
   pub stops : now.power.stops ≡ armed_after run
   pub risen : RoseAtLeast (cuts_in run) first.faults.cuts now.faults.cuts
+  pub none_failed : NoneFailed first now
   pub ready : cuts_in run ≡ 0 → KeepsReady first now
 
 -- two relations describe a run. The first holds of the readings that are known of its lines when this many were

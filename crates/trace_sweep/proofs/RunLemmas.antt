@@ -1,8 +1,10 @@
 -- The runs of a sweep, one behind the other, and how a run breaks off.
-use Rattle.std.proofs.Common.{◌≡◌, ◌⊎◌, inl, inr, ◌≤◌, ◌<◌, ℕ, ◌+◌, List, [], ◌∷◌, ◌++◌, length, take, Option, Some, None, Result, Ok, Err, OnOk, IfErr, IsErrOf, refl, sym, ◌∙◌, subst, append_assoc, arith}
+use Rattle.std.proofs.Common.{◌≡◌, ◌⊎◌, inl, inr, true, ◌≤◌, ◌<◌, ℕ, ◌+◌, List, [], ◌∷◌, ◌++◌, length, take, Option, Some, None, Result, Ok, Err, OnOk, OnErr, IfErr, IsErrOf, refl, sym, ◌∙◌, subst, append_assoc, arith}
 use Rattle.std.proofs.KnownBytes.{Appends-nil, Appends-trans}
 use Rattle.std.proofs.lemmas.List.{append-nil}
 use Rattle.std.specs.Io.KnownBytes.{Appends}
+use Rattle.std.specs.Result.{IsErrAnd}
+use Rattle.ft_base.specs.Count.{Rose}
 use Rattle.ft_base.specs.Contents.{Image}
 use Rattle.ft_base.specs.PlainDisk.{PlainDisk}
 use Rattle.ft_base.specs.StreamState.{SinkState}
@@ -19,11 +21,13 @@ use Rattle.trace_replay.specs.declared.ended.Ended.{Ended}
 use Rattle.trace_replay.specs.declared.ended.Ended.TheVariants as ended
 use Rattle.trace_replay.specs.Causes.{EndHasCauseUntraced, KeepsStreamsUntraced}
 use Rattle.trace_replay.specs.Commands.{Gives}
-use Rattle.trace_replay.specs.Said.{Tells, TellsPart}
+use Rattle.trace_replay.specs.Said.{NoneFailed, Tells, TellsPart}
 use Rattle.trace_replay.specs.Theorem.{EndsAs, EndsPart, RunsWhole}
-use Rattle.trace_replay.proofs.CutsLemmas.{counts_none, counts_then}
-use Rattle.trace_replay.proofs.ExitLemmas.{rose_later}
+use Rattle.trace_replay.proofs.CutsLemmas.{counts_none, counts_then, failed_then, none_failed}
+use Rattle.trace_replay.proofs.ExitLemmas.{exit_as, rose_later}
 use Rattle.trace_replay.proofs.FromLemmas.{before_itself, part_from}
+use Rattle.cache_run.proofs.CostLemmas.{printed_only}
+use Rattle.cache_run.proofs.CountLemmas.{ends_on, exit_back}
 use Rattle.cache_run.specs.Begun.{IsUnbegun}
 use Rattle.cache_run.specs.Fitted.{fitted_for}
 use Rattle.trace_sweep.specs.Ends.{BreaksAt, BreaksOver, PrintsPart, TellsBehind, TellsPartBehind}
@@ -45,13 +49,43 @@ streams_then {old = old} {mid = mid} {now = now} first next = record {
 pub streams_printed : {a b : SinkState} (now : State) → a.faults ≤ b.faults → b.lent ≡ a.lent → KeepsStreamsUntraced a b now now
 streams_printed now later lent = record { counts = counts_none now.counts; sink_later = later; flash_later = omega arith; disk_later = omega arith; lent = record { sink_lent = lent; rig_lent = refl } }
 
-pub causes_then : {T : Type 0} {r : Result T Ended} {a b c : SinkState} {old mid now : State} → KeepsStreamsUntraced a b old mid → EndHasCauseUntraced r b c mid now → EndHasCauseUntraced r a c old now
-causes_then first causes = record {
+-- nothing failed so far
+pub record NothingFailed (a b : SinkState) (old mid : State) : Type 0 where
+  pub sink : b.faults ≡ a.faults
+  pub devices : NoneFailed old mid
+
+pub nothing_none : (a : SinkState) (old : State) → NothingFailed a a old old
+nothing_none a old = record { sink = refl; devices = none_failed old }
+
+pub nothing_then : {a b c : SinkState} {old mid now : State} → NothingFailed a b old mid → NothingFailed b c mid now → NothingFailed a c old now
+nothing_then {old = old} {mid = mid} {now = now} first next = record { sink = next.sink ∙ first.sink; devices = failed_then old mid now first.devices next.devices }
+
+-- so says a whole run
+pub nothing_by : {a b : SinkState} {old now : State} → EndHasCauseUntraced {T = Unit {0}} (Ok tt) a b old now → NothingFailed a b old now
+nothing_by causes = record { sink = causes.sink_stays (λ is. cc); devices = causes.none_failed (λ is. cc) (λ is. cc) }
+
+pub causes_then : {T : Type 0} {r : Result T Ended} {a b c : SinkState} {old mid now : State} → KeepsStreamsUntraced a b old mid → NothingFailed a b old mid → EndHasCauseUntraced r b c mid now → EndHasCauseUntraced r a c old now
+causes_then {old = old} {mid = mid} {now = now} first sound causes = record {
   not_trace = causes.not_trace;
   not_source = causes.not_source;
   sink = λ is. rose_later _ _ _ first.sink_later (causes.sink is);
   flash = λ is. rose_later _ _ _ first.flash_later (causes.flash is);
   disk = λ is. rose_later _ _ _ first.disk_later (causes.disk is);
+  sink_stays = λ not. causes.sink_stays not ∙ sound.sink;
+  none_failed = λ flash disk. failed_then old mid now sound.devices (causes.none_failed flash disk);
+}
+
+-- a line could not be printed whole
+pub causes_printed : {a b : SinkState} {now : State} (r s : Result (Unit {0}) Ended) (from : Ended) → IsErrAnd s (λ e. e ≡ from) → r ≡ Err from → OnErr r (IsErrOf r ended.Sink ⊎ IsErrOf r ended.Memory)
+    → (IsErrOf r ended.Sink → Rose a.faults b.faults) → ((IsErrOf r ended.Sink → ⊥) → b.faults ≡ a.faults) → EndHasCauseUntraced s a b now now
+causes_printed {now = now} r s from is was only rose stays = record {
+  not_trace = λ k. printed_only r ended.Trace (λ no. cc) (λ no. cc) only (was ∙ exit_back s from ended.Trace is k);
+  not_source = λ k. printed_only r ended.Source (λ no. cc) (λ no. cc) only (was ∙ exit_back s from ended.Source is k);
+  sink = λ k. rose (was ∙ exit_back s from ended.Sink is k);
+  flash = λ k. absurd (printed_only r ended.Flash (λ no. cc) (λ no. cc) only (was ∙ exit_back s from ended.Flash is k));
+  disk = λ k. absurd (printed_only r ended.Disk (λ no. cc) (λ no. cc) only (was ∙ exit_back s from ended.Disk is k));
+  sink_stays = λ not. stays (λ k. not (exit_as s r from ended.Sink is was k));
+  none_failed = λ _ _. none_failed now;
 }
 
 -- ---- a part of the text behind more
@@ -80,7 +114,7 @@ module _ (a b c : SinkState) (before behind : List ℕ) (first : Appends a.taken
 
 -- a run's text holds nothing but its own lines
 tells_itself : (a b c : SinkState) (before : List ℕ) → Appends a.taken b.taken before → (run : List Ran) (answers : List Answer) → Tells b c run answers → TellsBehind before a c run answers
-tells_itself a b c before first run answers says = Appends-trans a.taken b.taken c.taken before (text (told run ++ answers)) first says
+tells_itself a b c before first run answers says = Appends-trans a.taken b.taken c.taken before (text (told run ++ answers)) first says.0
 
 tells_part_itself : (a b c : SinkState) (before : List ℕ) → Appends a.taken b.taken before → (run : List Ran) (answers : List Answer) (next : Option Answer) → TellsPart b c run answers next → TellsPartBehind before a c run answers next
 tells_part_itself a b c before first run answers None part = part
@@ -136,7 +170,7 @@ module _ (o : Told) (outcome : Outcome) (lines : List Line) (number : ℕ) {S : 
   whole_at ran = record {
     s = record { run = ran.run; cuts = ran.cuts; lost = ran.lost };
     is = record { lines_run = subst (λ all. WasRun o all ran.run []) ran.trace.0 ran.lines; fits = ran.leaves.fits };
-    printed = Appends-trans x.taken m.taken y.taken (at_text number) _ first ran.printed;
+    printed = Appends-trans x.taken m.taken y.taken (at_text number) _ first ran.printed.0;
     risen = ran.leaves.risen;
     left = record { disk = ran.leaves.disk; stops = ran.leaves.stops };
   }
@@ -145,6 +179,18 @@ module _ (o : Told) (outcome : Outcome) (lines : List Line) (number : ℕ) {S : 
   run_whole (Ok done) (inl unbegun) = absurd (elim unbegun.only [ inl is ↦ cc | inr (inl is) ↦ cc | inr (inr is) ↦ cc ])
   run_whole (Ok done) (inr ran) = whole_at ran
   run_whole (Err e) ends = tt
+
+  -- power is on behind it
+  pub run_on : (r : Result (Unit {0}) Ended) → Ends r → old.power.on ≡ true → ((IsErrOf r ended.Memory → ⊥) → now.power.on ≡ true) → now.power.on ≡ true
+  run_on r (inr ran) was on = ends_on o (Gives (stops_at number outcome ++ lines)) (Tells m y) (TellsPart m y) stands (fitted_for o.geometry old) now r ran
+  run_on r (inl unbegun) was on = elim unbegun.only [
+    | inl flash ↦ on (λ is. cc)
+    | inr (inl disk) ↦ on (λ is. cc)
+    | inr (inr memory) ↦ elim (unbegun.memory memory) [
+      | inl same ↦ subst (λ (s : State). s.power.on ≡ true) (sym same) was
+      | inr two ↦ two.0
+    ]
+  ]
 
   part_at : (e : Ended) → EndsPart o (Gives (stops_at number outcome ++ lines)) (Tells m y) (TellsPart m y) stands (fitted_for o.geometry old) now e → BreaksAt o outcome lines number [] x y stands now e
   part_at e ends = inr (inr (record {

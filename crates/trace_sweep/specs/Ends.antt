@@ -124,11 +124,12 @@ module _ (o : Told) (outcome : Outcome) (lines : List Line) (x y : SinkState) (s
     pub left : LeavesNewest stands now runs
     pub on : now.power.on ≡ true
 
-  -- the sweep ended in the first run, and nothing was printed
+  -- the sweep ended in the first run, and nothing was printed. Power is on, or memory ran out before the rig was touched
   pub record EndsCounting (e : Ended) : Type 0 where
     pub other : e ≢ ended.Sink
     pub printed : Said x y []
     pub on : e ≢ ended.Memory → now.power.on ≡ true
+    pub memory : e ≡ ended.Memory → (now ≡ first) ⊎ (now.power.on ≡ true)
 
   -- the sweep ended behind these runs: in the next run, or in the last line
   pub record EndsSweeping (e : Ended) : Type 0 where
@@ -138,7 +139,7 @@ module _ (o : Told) (outcome : Outcome) (lines : List Line) (x y : SinkState) (s
     pub swept : AreSwept o outcome lines runs
     pub part : ((length runs < count) × BreaksAt o outcome lines (length runs + 1) (sweep_text runs) x y stands now e)
         ⊎ ((length runs ≡ count) × PrintsPart e (sweep_text runs) (swept_text count) x y)
-    pub on : e ≢ ended.Memory → now.power.on ≡ true
+    pub on : now.power.on ≡ true
 
   -- the sweep ended with this result when the whole trace was read
   abbrev pub EndsHeld : Result (Unit {0}) Ended → Type 0

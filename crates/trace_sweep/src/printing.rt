@@ -31,6 +31,7 @@ fn print_line<O: Sink>(sink: &mut O, line: &[u8]) -> Result<(), Ended>
     ensures printed { OnOk result (Appends (O.state sink.old).taken (O.state sink.new).taken line.now) }
     ensures part { IfErr result (λ e. PrintsPart e [] line.now (O.state sink.old) (O.state sink.new)) }
     ensures rose { OnErr result (Rose (O.state sink.old).faults (O.state sink.new).faults) }
+    ensures stays { OnOk result ((O.state sink.new).faults ≡ (O.state sink.old).faults) }
     ensures only { OnErr result (IsErrOf result Ended.Sink) }
     ensures later { (O.state sink.old).faults ≤ (O.state sink.new).faults }
     ensures lent { (O.state sink.new).lent ≡ (O.state sink.old).lent }
@@ -46,6 +47,7 @@ pub(crate) fn print_at<O: Sink>(alloc: Global, sink: &mut O, number: u64) -> Res
     ensures printed { OnOk result (Appends (O.state sink.old).taken (O.state sink.new).taken (runs.at_text number)) }
     ensures part { IfErr result (λ e. PrintsPart e [] (runs.at_text number) (O.state sink.old) (O.state sink.new)) }
     ensures rose { IsErrOf result Ended.Sink → Rose (O.state sink.old).faults (O.state sink.new).faults }
+    ensures stays { (IsErrOf result Ended.Sink → ⊥) → (O.state sink.new).faults ≡ (O.state sink.old).faults }
     ensures only { OnErr result (IsErrOf result Ended.Sink ⊎ IsErrOf result Ended.Memory) }
     ensures later { (O.state sink.old).faults ≤ (O.state sink.new).faults }
     ensures lent { (O.state sink.new).lent ≡ (O.state sink.old).lent }
@@ -61,6 +63,7 @@ pub(crate) fn print_swept<O: Sink>(alloc: Global, sink: &mut O, count: u64) -> R
     ensures printed { OnOk result (Appends (O.state sink.old).taken (O.state sink.new).taken (runs.swept_text count)) }
     ensures part { IfErr result (λ e. PrintsPart e [] (runs.swept_text count) (O.state sink.old) (O.state sink.new)) }
     ensures rose { IsErrOf result Ended.Sink → Rose (O.state sink.old).faults (O.state sink.new).faults }
+    ensures stays { (IsErrOf result Ended.Sink → ⊥) → (O.state sink.new).faults ≡ (O.state sink.old).faults }
     ensures only { OnErr result (IsErrOf result Ended.Sink ⊎ IsErrOf result Ended.Memory) }
     ensures later { (O.state sink.old).faults ≤ (O.state sink.new).faults }
     ensures lent { (O.state sink.new).lent ≡ (O.state sink.old).lent }

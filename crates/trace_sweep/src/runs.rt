@@ -45,7 +45,7 @@ pub(crate) fn sweep_at<O: Sink, R: Rig>(
     ensures part { IfErr result (λ e. BreaksAt (told_by sweep.now.setup.now) sweep.now.outcome sweep.now.lines.now number []
         (O.state sink.old) (O.state sink.new) (ImageStandsFor sweep.now.setup.now.options.geometry) (R.state rig.new) e) }
     ensures causes { EndHasCauseUntraced result (O.state sink.old) (O.state sink.new) (R.state rig.old) (R.state rig.new) }
-    ensures on { (IsErrOf result Ended.Memory → ⊥) → (R.state rig.new).power.on ≡ true }
+    ensures on { (R.state rig.new).power.on ≡ true }
     ensures goes { KeepsStreamsUntraced (O.state sink.old) (O.state sink.new) (R.state rig.old) (R.state rig.new) }
 {
     print_at(alloc, sink, number)?;
@@ -76,7 +76,7 @@ pub(crate) fn sweep_each<O: Sink, R: Rig>(
         (O.state sink.old) (O.state sink.new) (ImageStandsFor sweep.now.setup.now.options.geometry) (R.state rig.old)
         (R.state rig.new) count e) }
     ensures causes { EndHasCauseUntraced result (O.state sink.old) (O.state sink.new) (R.state rig.old) (R.state rig.new) }
-    ensures on { (IsErrOf result Ended.Memory → ⊥) → (R.state rig.new).power.on ≡ true }
+    ensures on { (R.state rig.new).power.on ≡ true }
     ensures goes { KeepsStreamsUntraced (O.state sink.old) (O.state sink.new) (R.state rig.old) (R.state rig.new) }
 {
     let mut number = 0;

@@ -4,8 +4,9 @@ ghost use Rattle.std.specs.Io.KnownBytes.{IsAtEnd};
 ghost use Rattle.cache_model.specs.Stands.{ImageStandsFor};
 ghost use Rattle.cache_run.specs.Ends.{told_by};
 ghost use Rattle.held_trace.specs.Sweep.{IsSweepLine, SweepReads};
-ghost use Rattle.trace_replay.specs.Causes.{EndHasCause, EndHasCauseUntraced, KeepsStreamsUntraced};
+ghost use Rattle.trace_replay.specs.Causes.{EndHasCauseUntraced, KeepsStreamsUntraced};
 ghost use Rattle.trace_replay.specs.Lent.{KeepsLent};
+ghost use Rattle.trace_sweep.specs.Causes.{SweepHasCause};
 ghost use Rattle.trace_sweep.specs.Ends.{EndsHeld, EndsSweep};
 
 use crate::printing::print_swept;
@@ -65,7 +66,7 @@ pub fn sweep_with<I: Source, O: Sink, R: Rig>(
         (SweepReads setup.now.options.geometry.size (I.state source.old) (I.state source.new)) (O.state sink.old)
         (O.state sink.new) (ImageStandsFor setup.now.options.geometry) (R.state rig.old) (R.state rig.new) result }
     ensures end { OnOk result (IsAtEnd (I.state source.new).left) }
-    ensures causes { EndHasCause result (I.state source.old) (I.state source.new) (O.state sink.old) (O.state sink.new) (R.state rig.old)
+    ensures causes { SweepHasCause result (I.state source.old) (I.state source.new) (O.state sink.old) (O.state sink.new) (R.state rig.old)
         (R.state rig.new) }
     // A refused trace leaves the rig as it was, and power off if it was off.
     ensures untouched { IsErrOf result Ended.Trace ⊎ IsErrOf result Ended.Source → rig.new ≡ rig.old }

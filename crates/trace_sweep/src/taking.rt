@@ -21,6 +21,7 @@ fn say_refusal<O: Sink>(alloc: Global, sink: &mut O, line: u64, cause: LineError
     ensures part { result ≡ Ended.Sink → SaidPart (O.state sink.old) (O.state sink.new) [] (Some (answer_kind.Refused line cause)) }
     ensures none { result ≡ Ended.Memory → Said (O.state sink.old) (O.state sink.new) [] }
     ensures rose { result ≡ Ended.Sink → Rose (O.state sink.old).faults (O.state sink.new).faults }
+    ensures stays { result ≢ Ended.Sink → (O.state sink.new).faults ≡ (O.state sink.old).faults }
     ensures only { (result ≢ Ended.Source) × ((result ≢ Ended.Flash) × (result ≢ Ended.Disk)) }
     ensures later { (O.state sink.old).faults ≤ (O.state sink.new).faults }
     ensures lent { (O.state sink.new).lent ≡ (O.state sink.old).lent }
@@ -45,6 +46,8 @@ pub(crate) fn take_trace<I: Source, O: Sink>(
         result) }
     ensures source { IsErrOf result Ended.Source → Rose (I.state source.old).faults (I.state source.new).faults }
     ensures sink { IsErrOf result Ended.Sink → Rose (O.state sink.old).faults (O.state sink.new).faults }
+    ensures source_stays { OnOk result ((I.state source.new).faults ≡ (I.state source.old).faults) }
+    ensures sink_stays { (IsErrOf result Ended.Sink → ⊥) → (O.state sink.new).faults ≡ (O.state sink.old).faults }
     ensures later { (O.state sink.old).faults ≤ (O.state sink.new).faults }
     ensures source_lent { (I.state source.new).lent ≡ (I.state source.old).lent }
     ensures sink_lent { (O.state sink.new).lent ≡ (O.state sink.old).lent }

@@ -36,6 +36,9 @@ returns-in-Some-clause-causes g c =
       sink = λ is. rose_later _ _ _ c.count_form.ensures.goes.sink_later (c.print_cost.ensures.rose is);
       flash = λ is. absurd (printed_only c.print_cost.result ended.Flash (λ no. cc) (λ no. cc) only is);
       disk = λ is. absurd (printed_only c.print_cost.result ended.Disk (λ no. cc) (λ no. cc) only is);
+      source_stays = λ _. c.in-Ok.ensures.causes.source_stays (λ is. cc);
+      sink_stays = λ not. c.print_cost.ensures.stays not ∙ c.in-Ok.ensures.causes.sink_stays (λ is. cc);
+      none_failed = λ _ _. c.in-Ok.ensures.causes.none_failed (λ is. cc) (λ is. cc);
     }
 
 pub returns-in-Some-clause-on : goal.returns-in-Some-clause-on
@@ -52,6 +55,17 @@ pub returns-in-None-clause-ends : goal.returns-in-None-clause-ends
 returns-in-None-clause-ends g c =
     let y = g.O.Sink.state c.count_form.new.sink in
     cost_unsaid _ _ _ (g.O.Sink.state c.args.sink.now) y y (g.R.Media.state c.args.rig.now) (g.R.Media.state c.count_form.new.rig) c.in-Ok.ensures.ends.0 refl
+
+pub returns-in-None-clause-causes : goal.returns-in-None-clause-causes
+returns-in-None-clause-causes g c = record {
+  source = λ is. absurd (cc);
+  sink = λ is. absurd (cc);
+  flash = λ is. absurd (cc);
+  disk = λ is. absurd (cc);
+  source_stays = λ _. c.in-Ok.ensures.causes.source_stays (λ is. cc);
+  sink_stays = λ _. c.in-Ok.ensures.causes.sink_stays (λ is. cc);
+  none_failed = λ _ _. c.in-Ok.ensures.causes.none_failed (λ is. cc) (λ is. cc);
+}
 
 pub returns-in-None-clause-on : goal.returns-in-None-clause-on
 returns-in-None-clause-on g c = c.in-Ok.ensures.ends.0.leaves.rig.on

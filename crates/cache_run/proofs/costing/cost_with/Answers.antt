@@ -1,5 +1,6 @@
-use Rattle.std.proofs.Common.{inl, inr}
+use Rattle.std.proofs.Common.{inl, inr, refl}
 use Rattle.ft_base.specs.declared.told.Mode.TheVariants.{Back, Through}
+use Rattle.cache_run.proofs.EndLemmas.{end_cost}
 use Rattle.cache_run.proofs.BeginLemmas.{cause_begun, cause_later, empty_new, fresh_new, lent_later, unbegun}
 use Rattle.cache_run.proofs.CostLemmas.{costed_new}
 use Rattle.cache_run.proofs.costing.cost_with.Goals as goal
@@ -47,3 +48,9 @@ returns-in-Err-begin_through-clause-ends g c = inl (unbegun c.in-Err-begin_throu
 
 pub returns-in-Err-begin_through-clause-causes : goal.returns-in-Err-begin_through-clause-causes
 returns-in-Err-begin_through-clause-causes g c = cause_begun c.in-Err-begin_through.ended _ _ _ _ c.in-Err-begin_through.ensures.begins
+
+pub returns-in-Ok-clause-end : goal.returns-in-Ok-clause-end
+returns-in-Ok-clause-end g c = end_cost _ _ (λ n all reads. (reads.end refl).0) _ _ _ _ _ c.cost_over.result c.cost_over.ensures.ends
+
+pub returns-in-Ok-begin_through-clause-end : goal.returns-in-Ok-begin_through-clause-end
+returns-in-Ok-begin_through-clause-end g c = end_cost _ _ (λ n all reads. (reads.end refl).0) _ _ _ _ _ c.cost_over-in-Ok-begin_through.result c.cost_over-in-Ok-begin_through.ensures.ends

@@ -1,6 +1,7 @@
 use Rattle.std.proofs.Common.{inl, inr, refl}
 use Rattle.ft_base.specs.declared.told.Mode.TheVariants.{Back, Through}
 use Rattle.trace_replay.specs.Said.{Tells, TellsPart}
+use Rattle.cache_run.proofs.CountLemmas.{ends_on}
 use Rattle.cache_run.proofs.BeginLemmas.{empty_new, fresh_new, ends_made, goes_begun, goes_later, unbegun, untraced_begun, untraced_later}
 use Rattle.cache_run.proofs.holding.replay_lines.Goals as goal
 
@@ -53,3 +54,9 @@ returns-in-Err-begin_through-clause-causes g c = untraced_begun c.in-Err-begin_t
 
 pub returns-in-Err-begin_through-clause-goes : goal.returns-in-Err-begin_through-clause-goes
 returns-in-Err-begin_through-clause-goes g c = goes_begun _ c.in-Err-begin_through.ensures.begins
+
+pub returns-in-Ok-clause-on : goal.returns-in-Ok-clause-on
+returns-in-Ok-clause-on g c = λ _. ends_on _ _ _ _ _ _ _ c.replay_held.result c.replay_held.ensures.ends
+
+pub returns-in-Ok-begin_through-clause-on : goal.returns-in-Ok-begin_through-clause-on
+returns-in-Ok-begin_through-clause-on g c = λ _. ends_on _ _ _ _ _ _ _ c.replay_held-in-Ok-begin_through.result c.replay_held-in-Ok-begin_through.ensures.ends

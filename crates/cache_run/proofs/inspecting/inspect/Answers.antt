@@ -1,4 +1,4 @@
-use Rattle.std.proofs.Common.{ap, ◌∙◌, subst}
+use Rattle.std.proofs.Common.{ap, sym, ◌∙◌, subst}
 use Rattle.std.proofs.lemmas.Result.{on_ok_weaker, IfErr-weaker}
 use Rattle.ft_base.specs.Told.{Told}
 use Rattle.trace_model.specs.Readings.{Reads}
@@ -6,6 +6,7 @@ use Rattle.trace_model.specs.Run.{disk_without}
 use Rattle.trace_replay.specs.Commands.{TellsRefusal, TellsRefusalPart}
 use Rattle.cache_run.specs.Inspected.{PrintsFront, PrintsReport}
 use Rattle.cache_run.proofs.InspectLemmas.{early_on, inspected_by, inspected_lines}
+use Rattle.trace_replay.proofs.CutsLemmas.{failed_then}
 use Rattle.trace_replay.proofs.ExitLemmas.{rose_later}
 use Rattle.cache_run.proofs.inspecting.inspect.Goals as goal
 
@@ -45,17 +46,21 @@ returns-in-Ok-clause-ends g c =
     (on_ok_weaker c.tell_report.result (λ prints. subst (λ (k : Told). PrintsReport k.geometry (g.V.Volume.loads k) now y z) c.replay_quiet.ensures.owner.1 prints) c.tell_report.ensures.printed)
     (λ broke. subst (λ (k : Told). PrintsFront k.geometry (g.V.Volume.loads k) now y z) c.replay_quiet.ensures.owner.1 (c.tell_report.ensures.short broke))
     (IfErr-weaker c.tell_report.result _ _ (λ e silent other. ap g.O.Sink.state (silent other)) c.tell_report.ensures.silent)
-    causes.not_trace causes.not_source
+    causes.none_failed causes.not_trace causes.not_source
 
 pub returns-in-Ok-clause-causes : goal.returns-in-Ok-clause-causes
 returns-in-Ok-clause-causes g c =
     let goes = c.replay_quiet.ensures.goes in
+    let before = c.replay_quiet.ensures.causes in
     let causes = c.tell_report.ensures.causes in
     record {
       source = λ is. absurd (causes.not_source is);
       sink = λ is. rose_later _ _ _ goes.sink_later (causes.sink is);
       flash = λ is. rose_later _ _ _ goes.flash_later (causes.flash is);
       disk = λ is. rose_later _ _ _ goes.disk_later (causes.disk is);
+      source_stays = λ _. before.source_stays (λ is. (let bad = sym c.in-Ok.is ∙ is in cc));
+      sink_stays = λ not. causes.sink_stays not ∙ before.sink_stays (λ is. (let bad = sym c.in-Ok.is ∙ is in cc));
+      none_failed = λ flash disk. failed_then _ _ _ (before.none_failed (λ is. (let bad = sym c.in-Ok.is ∙ is in cc)) (λ is. (let bad = sym c.in-Ok.is ∙ is in cc))) (causes.none_failed flash disk);
     }
 
 pub returns-in-Ok-clause-on : goal.returns-in-Ok-clause-on

@@ -1,6 +1,7 @@
 use Rattle.std.proofs.Common.{inl, inr}
 use Rattle.ft_base.specs.declared.told.Mode.TheVariants.{Back, Through}
 use Rattle.trace_replay.specs.Commands.{TellsEnd, TellsEndPart}
+use Rattle.cache_run.proofs.CountLemmas.{ends_on}
 use Rattle.cache_run.proofs.BeginLemmas.{empty_new, fresh_new, ends_made, lent_untraced, unbegun, untraced_begun, untraced_later}
 use Rattle.cache_run.proofs.making.gen_with.Goals as goal
 
@@ -47,3 +48,9 @@ returns-in-Err-begin_through-clause-ends g c = inl (unbegun c.in-Err-begin_throu
 
 pub returns-in-Err-begin_through-clause-causes : goal.returns-in-Err-begin_through-clause-causes
 returns-in-Err-begin_through-clause-causes g c = untraced_begun c.in-Err-begin_through.ended _ _ _ c.in-Err-begin_through.ensures.begins
+
+pub returns-in-Ok-clause-on : goal.returns-in-Ok-clause-on
+returns-in-Ok-clause-on g c = λ _. ends_on _ _ _ _ _ _ _ c.replay_made.result c.replay_made.ensures.ends
+
+pub returns-in-Ok-begin_through-clause-on : goal.returns-in-Ok-begin_through-clause-on
+returns-in-Ok-begin_through-clause-on g c = λ _. ends_on _ _ _ _ _ _ _ c.replay_made-in-Ok-begin_through.result c.replay_made-in-Ok-begin_through.ensures.ends

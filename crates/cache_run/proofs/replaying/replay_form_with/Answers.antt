@@ -1,5 +1,7 @@
-use Rattle.std.proofs.Common.{inl, inr}
+use Rattle.std.proofs.Common.{inl, inr, refl}
 use Rattle.ft_base.specs.declared.told.Mode.TheVariants.{Back, Through}
+use Rattle.cache_run.proofs.EndLemmas.{end_run}
+use Rattle.cache_run.proofs.CountLemmas.{ends_on}
 use Rattle.cache_run.proofs.BeginLemmas.{cause_begun, cause_later, empty_new, fresh_new, lent_later, ends_new, unbegun}
 use Rattle.cache_run.proofs.replaying.replay_form_with.Goals as goal
 
@@ -46,3 +48,15 @@ returns-in-Err-begin_through-clause-ends g c = inl (unbegun c.in-Err-begin_throu
 
 pub returns-in-Err-begin_through-clause-causes : goal.returns-in-Err-begin_through-clause-causes
 returns-in-Err-begin_through-clause-causes g c = cause_begun c.in-Err-begin_through.ended _ _ _ _ c.in-Err-begin_through.ensures.begins
+
+pub returns-in-Ok-clause-end : goal.returns-in-Ok-clause-end
+returns-in-Ok-clause-end g c = end_run _ _ (λ n all reads. (reads.end refl).0) _ _ _ _ _ c.replay_form.result c.replay_form.ensures.ends
+
+pub returns-in-Ok-clause-on : goal.returns-in-Ok-clause-on
+returns-in-Ok-clause-on g c = λ _. ends_on _ _ _ _ _ _ _ c.replay_form.result c.replay_form.ensures.ends
+
+pub returns-in-Ok-begin_through-clause-end : goal.returns-in-Ok-begin_through-clause-end
+returns-in-Ok-begin_through-clause-end g c = end_run _ _ (λ n all reads. (reads.end refl).0) _ _ _ _ _ c.replay_form-in-Ok-begin_through.result c.replay_form-in-Ok-begin_through.ensures.ends
+
+pub returns-in-Ok-begin_through-clause-on : goal.returns-in-Ok-begin_through-clause-on
+returns-in-Ok-begin_through-clause-on g c = λ _. ends_on _ _ _ _ _ _ _ c.replay_form-in-Ok-begin_through.result c.replay_form-in-Ok-begin_through.ensures.ends

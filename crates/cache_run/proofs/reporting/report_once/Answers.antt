@@ -6,7 +6,8 @@ use Rattle.ft_volume.specs.Standing.{StandFor}
 use Rattle.ft_volume.specs.Volume.Call.{Reports}
 use Rattle.ft_volume.specs.declared.volume.VolumeError.{VolumeError}
 use Rattle.cache_run.specs.Inspected.{Asks}
-use Rattle.cache_run.proofs.AskLemmas.{answered, asks_cut, asks_still, at_device, disk_rose, flash_rose, not_lost}
+use Rattle.cache_run.proofs.AskLemmas.{answered, asks_cut, asks_still, at_device, disk_rose, flash_rose, none_failed_at, none_failed_cut, not_lost}
+use Rattle.trace_replay.proofs.CutsLemmas.{failed_same}
 use Rattle.cache_run.proofs.OwedLemmas.{stays_none}
 use Rattle.cache_run.proofs.reporting.report_once.Goals as goal
 
@@ -101,3 +102,19 @@ returns-in-Err-power_again-clause-disk g c = λ is. disk_rose _ _ _ _ _ c.in-Err
 
 pub returns-in-Err-power_again-clause-only : goal.returns-in-Err-power_again-clause-only
 returns-in-Err-power_again-clause-only g c = at_device _ c.in-Err.error _ c.in-Err-power_again.ensures.ended
+
+-- ---- what failed
+
+pub returns-in-Ok-clause-sound : goal.returns-in-Ok-clause-sound
+returns-in-Ok-clause-sound g c = λ _ _. failed_same _ _ (c.in-Ok.ensures.goes.cause.none refl)
+
+pub returns-in-Ok-power_again-clause-sound : goal.returns-in-Ok-power_again-clause-sound
+returns-in-Ok-power_again-clause-sound g c = λ _ _.
+    let u = g.V.Volume.state c.args.volume.now in
+    let v = g.V.Volume.state c.report.new.self in
+    let a = g.R.Media.state c.args.rig.now in
+    let b = g.R.Media.state c.report.new.rig in
+    none_failed_cut u v a b (g.R.Media.state c.power_again.new.rig) (subst (λ (e : VolumeError). Goes u v a b (answered e)) c.in-Ok-power_again.ensures.lost c.in-Err.ensures.goes) c.in-Ok-power_again.ensures.powered
+
+pub returns-in-Err-power_again-clause-sound : goal.returns-in-Err-power_again-clause-sound
+returns-in-Err-power_again-clause-sound g c = none_failed_at _ _ _ _ _ c.in-Err-power_again.ensures.same _ c.in-Err.error c.in-Err-power_again.ended c.in-Err-power_again.ensures.other c.in-Err.ensures.goes c.in-Err-power_again.ensures.ended

@@ -1,4 +1,4 @@
-use Rattle.std.proofs.Common.{◌≡◌, ◌+◌, Option, Ok, Err, IfSome, IsErrOf, refl, ap, ◌∙◌, subst, arith}
+use Rattle.std.proofs.Common.{◌≡◌, ◌+◌, Option, Ok, Err, IfSome, IsErrOf, refl, sym, ap, ◌∙◌, subst, arith}
 use Rattle.std.specs.Option.{OnSome}
 use Rattle.ft_base.specs.Told.{Told}
 use Rattle.ft_media.specs.Fitted.{KeepsReady}
@@ -7,6 +7,7 @@ use Rattle.ft_volume.specs.declared.volume.Report.{Report}
 use Rattle.trace_replay.specs.declared.ended.Ended.{Ended}
 use Rattle.cache_run.specs.Inspected.{Asks, IsReportOf, cuts_by}
 use Rattle.cache_run.proofs.AskLemmas.{asks_none, asks_then, fewer_left}
+use Rattle.trace_replay.proofs.CutsLemmas.{failed_then, none_failed}
 use Rattle.trace_replay.proofs.ExitLemmas.{rose_later}
 use Rattle.cache_run.proofs.reporting.report_through.Goals as goal
 
@@ -15,7 +16,7 @@ err_as : {A B : Type 0} (e x : Ended) → IsErrOf {T = A} (Err e) x → IsErrOf 
 err_as e x is = let same : e ≡ x = cc in ap Err same
 
 pub again-init : goal.again-init
-again-init g c = record { can = c.requires.can; told = refl; kept = λ d stood. stood; asks = (0, asks_none _ c.requires.can.on, λ none. refl) }
+again-init g c = record { can = c.requires.can; told = refl; kept = λ d stood. stood; sound = none_failed _; asks = (0, asks_none _ c.requires.can.on, λ none. refl) }
 
 pub again-preserved : goal.again-preserved
 again-preserved g c =
@@ -32,6 +33,7 @@ again-preserved g c =
       };
       told = c.report_once.ensures.owner.1 ∙ c.again.invariant.told;
       kept = λ d stood. c.report_once.ensures.kept d (c.again.invariant.kept d stood);
+      sound = failed_then _ _ _ c.again.invariant.sound (c.report_once.ensures.sound (λ is. (let bad = sym c.in-Ok-None.is ∙ is in cc)) (λ is. (let bad = sym c.in-Ok-None.is ∙ is in cc)));
       asks = (asks.0 + 1, asks_then asks.0 1 _ _ _ asks.1 cut, λ none. absurd (omega (arith, none)));
     }
 
@@ -64,3 +66,9 @@ returns-in-Err-clause-flash g c = λ is. rose_later _ _ _ c.again.invariant.asks
 
 pub returns-in-Err-clause-disk : goal.returns-in-Err-clause-disk
 returns-in-Err-clause-disk g c = λ is. rose_later _ _ _ c.again.invariant.asks.1.disk (c.in-Err.ensures.disk (err_as c.in-Err.ended _ is))
+
+pub returns-in-Ok-Some-clause-sound : goal.returns-in-Ok-Some-clause-sound
+returns-in-Ok-Some-clause-sound g c = λ _ _. failed_then _ _ _ c.again.invariant.sound (c.report_once.ensures.sound (λ is. (let bad = sym c.in-Ok-Some.is ∙ is in cc)) (λ is. (let bad = sym c.in-Ok-Some.is ∙ is in cc)))
+
+pub returns-in-Err-clause-sound : goal.returns-in-Err-clause-sound
+returns-in-Err-clause-sound g c = λ flash disk. failed_then _ _ _ c.again.invariant.sound (c.in-Err.ensures.sound (λ is. flash (err_as c.in-Err.ended _ is)) (λ is. disk (err_as c.in-Err.ended _ is)))

@@ -1,4 +1,5 @@
 use Rattle.std.proofs.Common.{◌≡◌, ℕ, length}
+use Rattle.trace_replay.specs.Said.{NoneFailed}
 use Rattle.trace_replay.specs.Went.{Keeps}
 use Rattle.cache_run.specs.Inspected.{Asks, CanReport}
 use Rattle.cache_run.proofs.reporting.report_through.Given as goal
@@ -13,6 +14,7 @@ invariant-again g l =
       can : CanReport (g.V.Volume.owns l.volume) (g.V.Volume.owes l.volume) (g.V.Volume.stands is.told) now;
       told : is.told ≡ was.told;
       kept : Keeps (g.V.Volume.stands was.told) (g.V.Volume.stands is.told) first.contents now.contents;
+      sound : NoneFailed first now;
       asks : (cuts : ℕ) × Asks cuts first now × (cuts ≡ 0 → now ≡ first);
     }
 

@@ -1,7 +1,7 @@
 use Rattle.std.proofs.Common.{inl, inr, refl}
 use Rattle.flashtier_words.specs.declared.command.Command.TheVariants.{Replay, Cost, Gen, Inspect, Sweep}
 use Rattle.flashtier_run.proofs.SetupLemmas.{by_setup}
-use Rattle.flashtier_run.proofs.StatusLemmas.{runs_made, runs_read, unbegun_source}
+use Rattle.flashtier_run.proofs.StatusLemmas.{runs_made, runs_read, runs_swept, unbegun_source}
 use Rattle.flashtier_run.proofs.running.run_command.Goals as goal
 
 pub returns-in-Replay : goal.returns-in-Replay
@@ -20,7 +20,7 @@ pub returns-in-Gen : goal.returns-in-Gen
 returns-in-Gen g c =
     let run = c.gen_with.ensures in
     let is = by_setup (λ m o. Gen m o c.in-Gen.number c.in-Gen.count) (λ m o. refl) c.in-Gen.is c.setup_of-setup.ensures in
-    rw is (runs_made (Gen _ _ _ _) c.gen_with.result _ c.status_of-in-Gen.ensures _ _ _ _ _ _ _ _ _ _ _ _ (λ read. read) refl (elim run.ends [ inl none ↦ inl (tt, unbegun_source none) | inr ends ↦ inr ends ]) run.causes run.on (record { source_lent = refl; sink_lent = run.lent.sink_lent; rig_lent = run.lent.rig_lent }))
+    rw is (runs_made (Gen _ _ _ _) c.gen_with.result _ c.status_of-in-Gen.ensures _ _ _ _ _ _ _ _ _ _ _ _ (λ read. read) refl refl (elim run.ends [ inl none ↦ inl (tt, unbegun_source none) | inr ends ↦ inr ends ]) run.causes run.on (record { source_lent = refl; sink_lent = run.lent.sink_lent; rig_lent = run.lent.rig_lent }))
 
 pub returns-in-Inspect : goal.returns-in-Inspect
 returns-in-Inspect g c =
@@ -32,4 +32,4 @@ pub returns-in-Sweep : goal.returns-in-Sweep
 returns-in-Sweep g c =
     let run = c.sweep_with.ensures in
     let is = by_setup (λ m o. Sweep m o c.in-Sweep.outcome) (λ m o. refl) c.in-Sweep.is c.setup_of-setup.ensures in
-    rw is (runs_read (Sweep _ _ _) c.sweep_with.result _ c.status_of-in-Sweep.ensures _ _ _ _ _ _ _ _ _ _ _ _ (λ made. made) (inr run.ends) run.end run.causes (λ other. elim (run.on other) [ inl same ↦ inr (tt, same) | inr on ↦ inl on ]) run.lent)
+    rw is (runs_swept (Sweep _ _ _) c.sweep_with.result _ c.status_of-in-Sweep.ensures _ _ _ _ _ _ _ _ _ _ _ _ tt (λ made. made) (inr run.ends) run.end run.causes (λ other. elim (run.on other) [ inl same ↦ inr (tt, same) | inr on ↦ inl on ]) run.lent)

@@ -40,7 +40,7 @@ loop-answer-preserved g c =
           let none : c.if-len-ge-PIECE.lines.items ≡ [] = first_of (search rules, cc) in
           let later = w.send.ensures.cause.later in
           record {
-            gathered = gathered_sent _ _ _ _ more _ _ w.as_slice.result.now _ w.as_slice.ensures.value w.in-Ok-send.ensures.ok same none;
+            gathered = gathered_sent _ _ _ _ more _ _ w.as_slice.result.now _ w.as_slice.ensures.value w.in-Ok-send.ensures.ok w.in-Ok-send.ensures.cause.stays same none;
             later = rw same (omega arith);
             lent = first_of (search rules, cc);
           }

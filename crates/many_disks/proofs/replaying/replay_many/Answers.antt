@@ -1,6 +1,6 @@
 use Rattle.std.proofs.Common.{◌≡◌, ◌/◌, ◌∙◌, refl, ap, rules}
 use Rattle.trace_replay.proofs.ExitLemmas.{blamed_at}
-use Rattle.trace_replay.proofs.FromLemmas.{before_itself, ends_from}
+use Rattle.trace_replay.proofs.FromLemmas.{before_itself, ends_failed, ends_from, ends_says}
 use Rattle.many_disks.proofs.FitsLemmas.{ends_fits}
 use Rattle.many_disks.proofs.ReplayLemmas.{many_lent, part_back, reads_back, tells_back, tells_many, tells_part}
 use Rattle.many_disks.proofs.replaying.replay_many.Goals as goal
@@ -38,11 +38,15 @@ returns-clause-causes g c =
     let same_sink : script.sink.ghost_name ≡ c.new-script.result.sink.ghost_name = apart.3 in
     let r = c.replay_script.result in
     let blames = c.replay_script.ensures.causes in
+    let ends = c.replay_script.ensures.ends (g.I.Source.state c.args.source.now) (g.O.Sink.state c.args.sink.now) c.new-script.ensures.came in
     record {
       source = λ is. (let rose = (blamed_at r _ _ blames is).source refl in search (rules, same_source, rose));
       sink = λ is. (let rose = (blamed_at r _ _ blames is).sink refl in search (rules, same_sink, rose));
       flash = λ is. (blamed_at r _ _ blames is).flash refl;
       disk = λ is. (blamed_at r _ _ blames is).disk refl;
+      source_stays = λ not. (let same = c.replay_script.ensures.told not in search (rules, same_source, same));
+      sink_stays = λ not. (let same = (ends_says _ _ _ _ _ _ _ r ends not).2.2.said.1 in search (rules, same_sink, same));
+      none_failed = ends_failed _ _ _ _ _ _ _ r ends;
     }
 
 pub returns-clause-lent : goal.returns-clause-lent

@@ -1,20 +1,34 @@
-use Rattle.std.proofs.Common.{◌≡◌, ap, ◌∙◌, ◌+◌, ◌*◌, arith, rules, refl}
+use Rattle.std.proofs.Common.{◌≡◌, ap, ◌∙◌, ◌+◌, ◌*◌, arith, rules, refl, subst}
+use Rattle.std.specs.FinMap.{get}
+use Rattle.ft_base.specs.declared.geometry.Geometry.{Geometry}
 use Rattle.ft_media.proofs.DrivesLemmas.{drives_none, drives_then}
+use Rattle.mapping.specs.Bits.{IsBlockOf}
 use Rattle.checkpoint.specs.Counts.{programs_counted}
 use Rattle.checkpoint.proofs.CountsLemmas.{programs_none, programs_more}
 use Rattle.checkpoint.proofs.OnlyLemmas.{only_failed}
+use Rattle.merge_engine.specs.Steps.{IsCopyOf, filler_page}
+use Rattle.merge_engine.proofs.PlaceLemmas.{owned_place, at_entry, at_none}
+use Rattle.merge_engine.proofs.TakeLemmas.{agree_map}
 use Rattle.merge_engine.proofs.CopyLemmas.{copied_more, filled_more, held_is_below, is_page_of_group, page_before, pages_of_group}
 use Rattle.merge_engine.proofs.copying.copy_group.Goals as goal
 
-pub overflow_mul-lba : goal.overflow_mul-lba
-overflow_mul-lba g c = let page = is_page_of_group c.args.cache.now (g.M.Media.state
-    c.args.media.now).contents c.args.group c.held_bits-held.result c.loop-page.page c.requires.agree c.held_bits-held.ensures c.loop-page-test.true in let low = page.1 in omega
-    (arith, low, c.args.cache.now.geometry.in_range.size_high)
+pub place_beside-from-requires-clause-is_map : goal.place_beside-from-requires-clause-is_map
+place_beside-from-requires-clause-is_map g c = agree_map c.args.cache.now (g.M.Media.state c.args.media.now).contents c.requires.agree
 
-pub overflow_add-lba : goal.overflow_add-lba
-overflow_add-lba g c = let page = is_page_of_group c.args.cache.now (g.M.Media.state
-    c.args.media.now).contents c.args.group c.held_bits-held.result c.loop-page.page c.requires.agree c.held_bits-held.ensures c.loop-page-test.true in let low = page.1 in omega
-    (arith, low, c.args.cache.now.geometry.in_range.size_high)
+pub place_beside-from-requires-clause-own : goal.place_beside-from-requires-clause-own
+place_beside-from-requires-clause-own g c = subst (λ (h : Geometry). IsBlockOf h c.args.cache.now.map.entries c.args.group c.block_of-own.result) c.requires.agree.sound.of_one.map
+    (record { some = c.block_of-own.ensures.some; none = c.block_of-own.ensures.none })
+
+pub place_beside-from-requires-clause-page : goal.place_beside-from-requires-clause-page
+place_beside-from-requires-clause-page g c = (is_page_of_group c.args.cache.now (g.M.Media.state c.args.media.now).contents c.args.group c.held_bits-held.result c.loop-page.page c.requires.agree c.held_bits-held.ensures c.loop-page-test.true).0
+
+pub place_beside-from-requires-clause-size : goal.place_beside-from-requires-clause-size
+place_beside-from-requires-clause-size g c = (is_page_of_group c.args.cache.now (g.M.Media.state c.args.media.now).contents c.args.group c.held_bits-held.result c.loop-page.page c.requires.agree c.held_bits-held.ensures c.loop-page-test.true).1
+
+pub copy_page-requires-clause-from : goal.copy_page-requires-clause-from
+copy_page-requires-clause-from g c =
+    let a = c.args.group * c.args.cache.now.geometry.p + c.loop-page.page in
+    owned_place c.args.cache.now.map.entries a (get c.args.cache.now.map.entries a) c.place_beside-from.result refl c.place_beside-from.ensures
 
 pub copy_page-requires-clause-next : goal.copy_page-requires-clause-next
 copy_page-requires-clause-next g c = record {
@@ -47,11 +61,15 @@ loop-page-preserved g c = record {
   next = c.in_ok-copy_page.ensures.next;
   copied = copied_more c.args.cache.now (g.M.Media.state c.loop-page.media).contents (g.M.Media.state c.copy_page.new.media).contents.flash c.args.group c.args.block
       (c.args.group * c.args.cache.now.geometry.p + c.loop-page.page) c.loop-page.page (record { block = c.args.block; page = c.loop-page.page })
-      c.loop-page.invariant.agree (g.met.M.Media.blank_ahead c.loop-page.media) refl refl c.loop-page.invariant.next c.loop-page.invariant.copied c.in_ok-copy_page.ensures.others c.in_ok-copy_page.ensures.copied;
+      c.loop-page.invariant.agree (g.met.M.Media.blank_ahead c.loop-page.media) refl refl c.loop-page.invariant.next c.loop-page.invariant.copied c.in_ok-copy_page.ensures.others
+      (λ e there. at_entry (get c.args.cache.now.map.entries (c.args.group * c.args.cache.now.geometry.p + c.loop-page.page)) c.place_beside-from.result c.place_beside-from.ensures
+      (λ at. IsCopyOf (g.M.Media.state c.copy_page.new.media).contents.flash.page at (record { block = c.args.block; page = c.loop-page.page })) c.in_ok-copy_page.ensures.copied e there);
   filled = filled_more c.args.cache.now.geometry c.args.cache.now.map.entries (g.M.Media.state c.loop-page.media).contents.flash
       (g.M.Media.state c.copy_page.new.media).contents.flash c.args.group c.args.block (c.args.group * c.args.cache.now.geometry.p + c.loop-page.page) c.loop-page.page
       (record { block = c.args.block; page = c.loop-page.page })
-      refl refl c.loop-page.invariant.filled c.in_ok-copy_page.ensures.others c.in_ok-copy_page.ensures.filler;
+      refl refl c.loop-page.invariant.filled c.in_ok-copy_page.ensures.others
+      (λ none. at_none (get c.args.cache.now.map.entries (c.args.group * c.args.cache.now.geometry.p + c.loop-page.page)) c.place_beside-from.result c.place_beside-from.ensures
+      ((g.M.Media.state c.copy_page.new.media).contents.flash.page (record { block = c.args.block; page = c.loop-page.page }) ≡ filler_page) c.in_ok-copy_page.ensures.filler none);
   counts = programs_more c.loop-page.page (g.M.Media.state c.args.media.now).counts (g.M.Media.state c.loop-page.media).counts (g.M.Media.state c.copy_page.new.media).counts c.loop-page.invariant.counts c.in_ok-copy_page.ensures.counts;
   drives = drives_then (g.M.Media.state c.args.media.now) (g.M.Media.state c.loop-page.media) (g.M.Media.state c.copy_page.new.media) _ _ c.loop-page.invariant.drives c.in_ok-copy_page.ensures.drives.flash;
 }

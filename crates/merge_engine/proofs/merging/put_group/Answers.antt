@@ -8,17 +8,17 @@ use Rattle.merge_engine.proofs.merging.put_group.Goals as goal
 pub note-requires-clause-fits : goal.note-requires-clause-fits
 note-requires-clause-fits c =
     let r = c.requires in
-    putting_fits c.args.cache.now c.args.group c.args.block c.held_bits.result c.dirty_bits.result r.of_one r.is_map r.roles r.held r.block r.free c.held_bits.ensures c.dirty_bits.ensures
+    putting_fits c.args.cache.now c.args.group c.args.block c.page_sets-sets.result.held c.page_sets-sets.result.dirty r.of_one r.is_map r.roles r.held r.block r.free c.page_sets-sets.ensures.held c.page_sets-sets.ensures.dirty
 
 pub note-requires-clause-sound : goal.note-requires-clause-sound
 note-requires-clause-sound c =
     let r = c.requires in
-    putting_spelled c.args.cache.now c.args.group c.args.block c.held_bits.result c.dirty_bits.result r.of_one r.is_map r.roles r.held r.block r.free c.held_bits.ensures c.dirty_bits.ensures
+    putting_spelled c.args.cache.now c.args.group c.args.block c.page_sets-sets.result.held c.page_sets-sets.result.dirty r.of_one r.is_map r.roles r.held r.block r.free c.page_sets-sets.ensures.held c.page_sets-sets.ensures.dirty
 
 pub returns-clause-map : goal.returns-clause-map
 returns-clause-map c = record {
   entries = let r = c.requires in
-      moved_entries c.args.cache.now c.args.group c.args.block c.held_bits.result c.dirty_bits.result r.of_one c.held_bits.ensures c.dirty_bits.ensures c.note.new.cache.map.entries c.note.ensures.map.entries;
+      moved_entries c.args.cache.now c.args.group c.args.block c.page_sets-sets.result.held c.page_sets-sets.result.dirty r.of_one c.page_sets-sets.ensures.held c.page_sets-sets.ensures.dirty c.note.new.cache.map.entries c.note.ensures.map.entries;
   pages = c.note.ensures.map.pages;
   groups = c.note.ensures.map.groups;
   buckets = c.note.ensures.map.buckets;
@@ -31,10 +31,10 @@ returns-clause-stays c = λ contents copied.
     let n = c.note.ensures in
     let s = c.set_role.ensures in
     record {
-      agree = agree_moved c.args.cache.now c.note.new.cache c.set_role.new.self c.args.group c.args.block c.held_bits.result c.dirty_bits.result r.of_one r.is_map r.roles r.held r.block r.free
-          c.held_bits.ensures c.dirty_bits.ensures (as_noted c.args.cache.now c.note.new.cache _ n.cache n.log) n.map.entries n.of_one n.roles s.geometry s.role s.others contents copied;
-      lists = λ list durable. lists_moved c.args.cache.now c.note.new.cache c.set_role.new.self c.args.group c.args.block c.held_bits.result c.dirty_bits.result r.of_one r.is_map r.roles r.held r.block r.free
-          c.held_bits.ensures c.dirty_bits.ensures (as_noted c.args.cache.now c.note.new.cache _ n.cache n.log) n.map.entries n.of_one n.roles s.geometry s.role s.others contents list durable copied;
+      agree = agree_moved c.args.cache.now c.note.new.cache c.set_role.new.self c.args.group c.args.block c.page_sets-sets.result.held c.page_sets-sets.result.dirty r.of_one r.is_map r.roles r.held r.block r.free
+          c.page_sets-sets.ensures.held c.page_sets-sets.ensures.dirty (as_noted c.args.cache.now c.note.new.cache _ n.cache n.log) n.map.entries n.of_one n.roles s.geometry s.role s.others contents copied;
+      lists = λ list durable. lists_moved c.args.cache.now c.note.new.cache c.set_role.new.self c.args.group c.args.block c.page_sets-sets.result.held c.page_sets-sets.result.dirty r.of_one r.is_map r.roles r.held r.block r.free
+          c.page_sets-sets.ensures.held c.page_sets-sets.ensures.dirty (as_noted c.args.cache.now c.note.new.cache _ n.cache n.log) n.map.entries n.of_one n.roles s.geometry s.role s.others contents list durable copied;
     }
 
 pub returns-clause-waits : goal.returns-clause-waits

@@ -8,17 +8,17 @@ use Rattle.merge_engine.proofs.switching.switch_block.Goals as goal
 pub note-requires-clause-fits : goal.note-requires-clause-fits
 note-requires-clause-fits c =
     let r = c.requires in
-    switching_fits c.args.cache.now c.args.group c.args.block c.held_bits.result c.dirty_bits.result r.of_one r.is_map r.roles r.held r.block r.switch c.held_bits.ensures c.dirty_bits.ensures
+    switching_fits c.args.cache.now c.args.group c.args.block c.page_sets-sets.result.held c.page_sets-sets.result.dirty r.of_one r.is_map r.roles r.held r.block r.switch c.page_sets-sets.ensures.held c.page_sets-sets.ensures.dirty
 
 pub note-requires-clause-sound : goal.note-requires-clause-sound
 note-requires-clause-sound c =
     let r = c.requires in
-    switching_spelled c.args.cache.now c.args.group c.args.block c.held_bits.result c.dirty_bits.result r.of_one r.is_map r.roles r.held r.block r.switch c.held_bits.ensures c.dirty_bits.ensures
+    switching_spelled c.args.cache.now c.args.group c.args.block c.page_sets-sets.result.held c.page_sets-sets.result.dirty r.of_one r.is_map r.roles r.held r.block r.switch c.page_sets-sets.ensures.held c.page_sets-sets.ensures.dirty
 
 pub returns-clause-map : goal.returns-clause-map
 returns-clause-map c = record {
   entries = let r = c.requires in
-      moved_entries c.args.cache.now c.args.group c.args.block c.held_bits.result c.dirty_bits.result r.of_one c.held_bits.ensures c.dirty_bits.ensures c.note.new.cache.map.entries c.note.ensures.map.entries;
+      moved_entries c.args.cache.now c.args.group c.args.block c.page_sets-sets.result.held c.page_sets-sets.result.dirty r.of_one c.page_sets-sets.ensures.held c.page_sets-sets.ensures.dirty c.note.new.cache.map.entries c.note.ensures.map.entries;
   pages = c.note.ensures.map.pages;
   groups = c.note.ensures.map.groups;
   buckets = c.note.ensures.map.buckets;
@@ -31,10 +31,10 @@ returns-clause-stays c = λ contents.
     let n = c.note.ensures in
     let s = c.set_role.ensures in
     record {
-      agree = agree_switch c.args.cache.now c.note.new.cache c.set_role.new.self c.release.new.self c.args.group c.args.block c.held_bits.result c.dirty_bits.result r.of_one r.is_map r.roles r.held r.block
-          r.switch c.held_bits.ensures c.dirty_bits.ensures n.cache n.log n.map.entries n.of_one n.roles c.release.ensures.released c.release.ensures.sound s.geometry s.role s.others contents;
-      lists = lists_switch c.args.cache.now c.note.new.cache c.set_role.new.self c.release.new.self c.args.group c.args.block c.held_bits.result c.dirty_bits.result r.of_one r.is_map r.roles r.held r.block
-          r.switch c.held_bits.ensures c.dirty_bits.ensures n.cache n.log n.map.entries n.of_one n.roles c.release.ensures.released c.release.ensures.sound s.geometry s.role s.others contents;
+      agree = agree_switch c.args.cache.now c.note.new.cache c.set_role.new.self c.release.new.self c.args.group c.args.block c.page_sets-sets.result.held c.page_sets-sets.result.dirty r.of_one r.is_map r.roles r.held r.block
+          r.switch c.page_sets-sets.ensures.held c.page_sets-sets.ensures.dirty n.cache n.log n.map.entries n.of_one n.roles c.release.ensures.released c.release.ensures.sound s.geometry s.role s.others contents;
+      lists = lists_switch c.args.cache.now c.note.new.cache c.set_role.new.self c.release.new.self c.args.group c.args.block c.page_sets-sets.result.held c.page_sets-sets.result.dirty r.of_one r.is_map r.roles r.held r.block
+          r.switch c.page_sets-sets.ensures.held c.page_sets-sets.ensures.dirty n.cache n.log n.map.entries n.of_one n.roles c.release.ensures.released c.release.ensures.sound s.geometry s.role s.others contents;
     }
 
 pub returns-clause-waits : goal.returns-clause-waits

@@ -52,3 +52,10 @@ pub returns-in-Some-clause-found : goal.returns-in-Some-clause-found
 returns-in-Some-clause-found g c = λ d stood.
     let found = (rw c.in-Some.is at c.in_ok-back.ensures.found) d (c.again.invariant.kept d stood) in
     subst (λ (l : List Recent). IsReadBack c.args.request.lba c.args.request.count c.args.request.tag l d c.in-Some.found.kept c.in-Some.found.lost) c.again.invariant.same found
+
+pub returns-in-Some-clause-leaves : goal.returns-in-Some-clause-leaves
+returns-in-Some-clause-leaves g c = record {
+  owner = (c.read_back.ensures.leaves.owner.0, c.read_back.ensures.leaves.owner.1 ∙ c.again.invariant.told);
+  kept = λ d stood. c.read_back.ensures.leaves.kept d (c.again.invariant.kept d stood);
+  clear = c.in_ok-back.ensures.leaves.clear;
+}

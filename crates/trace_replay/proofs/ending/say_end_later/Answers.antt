@@ -101,7 +101,7 @@ returns-in_err-end-clause-images g c = λ run o stops.
 
 pub returns-in_err-end-clause-goes : goal.returns-in_err-end-clause-goes
 returns-in_err-end-clause-goes g c = goes_script g.P.Script.state g.P.Script.came g.P.Script.broke g.P.Script.knows _ _ _ _ _ (goes_script g.P.Script.state g.P.Script.came g.P.Script.broke g.P.Script.knows _ _ _ _ _ (goes_then g.P.Script.state g.P.Script.came g.P.Script.broke g.P.Script.knows _ _ _ _ _ _ c.flush_later.ensures.went.goes c.tell_touched.ensures.goes) c.say_losses.ensures.goes)
-    (record { source = c.end.ensures.goes.source_later; sink = c.end.ensures.goes.later; lent = c.end.ensures.goes.lent; size = c.end.ensures.goes.size; turns = c.end.ensures.goes.turns; knew = c.end.ensures.knew })
+    (record { source = c.end.ensures.no_source; sink = c.end.ensures.goes.later; lent = c.end.ensures.goes.lent; size = c.end.ensures.goes.size; turns = c.end.ensures.goes.turns; knew = c.end.ensures.knew })
 
 pub returns-in_err-end-clause-spends : goal.returns-in_err-end-clause-spends
 returns-in_err-end-clause-spends g c =
@@ -139,7 +139,7 @@ returns-clause-images g c = λ run o stops.
 
 pub returns-clause-goes : goal.returns-clause-goes
 returns-clause-goes g c = goes_script g.P.Script.state g.P.Script.came g.P.Script.broke g.P.Script.knows _ _ _ _ _ (goes_script g.P.Script.state g.P.Script.came g.P.Script.broke g.P.Script.knows _ _ _ _ _ (goes_then g.P.Script.state g.P.Script.came g.P.Script.broke g.P.Script.knows _ _ _ _ _ _ c.flush_later.ensures.went.goes c.tell_touched.ensures.goes) c.say_losses.ensures.goes)
-    (record { source = c.end.ensures.goes.source_later; sink = c.end.ensures.goes.later; lent = c.end.ensures.goes.lent; size = c.end.ensures.goes.size; turns = c.end.ensures.goes.turns; knew = c.end.ensures.knew })
+    (record { source = c.end.ensures.no_source; sink = c.end.ensures.goes.later; lent = c.end.ensures.goes.lent; size = c.end.ensures.goes.size; turns = c.end.ensures.goes.turns; knew = c.end.ensures.knew })
 
 pub returns-clause-spends : goal.returns-clause-spends
 returns-clause-spends g c = record {

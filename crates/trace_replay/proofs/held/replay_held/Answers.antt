@@ -1,7 +1,7 @@
 use Rattle.std.proofs.Common.{◌++◌, ◌≡◌, ◌∙◌, List, ap, map, refl, rules, subst, sym}
 use Rattle.trace_model.specs.Readings.{accepted}
 use Rattle.trace_replay.proofs.ExitLemmas.{blamed_at}
-use Rattle.trace_replay.proofs.FromLemmas.{before_itself, ends_from, refused_at, unread_at}
+use Rattle.trace_replay.proofs.FromLemmas.{before_itself, ends_failed, ends_from, ends_says, refused_at, unread_at}
 use Rattle.trace_replay.proofs.HeldLemmas.{held_never, lines_same}
 use Rattle.trace_replay.proofs.StreamLemmas.{shown_by, told_by}
 use Rattle.trace_model.specs.declared.line.Line.{Line}
@@ -26,6 +26,8 @@ returns-clause-causes g c =
       sink = λ is. (let rose = (blamed_at r _ _ blames is).sink refl in search (rules, rose));
       flash = λ is. (blamed_at r _ _ blames is).flash refl;
       disk = λ is. (blamed_at r _ _ blames is).disk refl;
+      sink_stays = λ not. (let same = (ends_says _ _ _ _ _ _ _ r ends not).2.2.0.said.1 in search (rules, same));
+      none_failed = ends_failed _ _ _ _ _ _ _ r ends;
     }
 
 pub returns-clause-ends : goal.returns-clause-ends
@@ -33,7 +35,7 @@ returns-clause-ends g c =
     let x = g.O.Sink.state c.args.sink.now in
     ends_from (g.V.Volume.state c.args.volume.now).told _ _ _ _ _ _ _ _ _
     (λ n all w gives. subst (λ (ls : List Line). Gives ls n all w) (lines_same (c.args.first.now ++ c.args.lines.now)) gives)
-    (λ run answers says. told_by x (g.O.Sink.state c.replay_script.new.script.sink.now) _ (search rules) run answers says.0 says.1.said says.2.0.said)
+    (λ run answers says. told_by x (g.O.Sink.state c.replay_script.new.script.sink.now) _ _ (search rules) (search rules) run answers says.0 says.1.said says.2.0.said)
     (λ y d stood. stood)
     (before_itself _)
     _ _ (shown_by x (g.O.Sink.state c.replay_script.new.script.sink.now) _ (search rules))

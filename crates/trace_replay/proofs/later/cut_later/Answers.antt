@@ -54,7 +54,7 @@ returns-clause-leaves g c = record {
 }
 
 pub returns-clause-runs : goal.returns-clause-runs
-returns-clause-runs g c = cut_runs c.in_ok-back.back.cuts _ _ _ c.args.outcome c.cut.ensures.through c.in_ok-back.ensures.went.done.cut
+returns-clause-runs g c = cut_runs c.in_ok-back.back.cuts _ _ _ c.args.outcome (g.met.R.Media.is_small c.args.rig.now) c.cut.ensures.through c.in_ok-back.ensures.went.done.cut
 
 pub returns-clause-goes : goal.returns-clause-goes
 returns-clause-goes g c =

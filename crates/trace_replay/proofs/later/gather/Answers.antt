@@ -37,3 +37,10 @@ returns-in_err-cut-clause-went g c =
 
 pub returns-then-not-cut-clause-found : goal.returns-then-not-cut-clause-found
 returns-then-not-cut-clause-found g c = λ d stood. c.in_ok-cut.ensures.found c.if-not-cut.true d (shows_clear _ _ _ d c.again.invariant.clear.nothing_owed (c.again.invariant.kept d stood))
+
+pub returns-then-not-cut-clause-leaves : goal.returns-then-not-cut-clause-leaves
+returns-then-not-cut-clause-leaves g c = record {
+  owner = (c.gather_once.ensures.owner.0, c.gather_once.ensures.owner.1 ∙ c.again.invariant.told);
+  kept = λ d stood. c.gather_once.ensures.kept c.again.invariant.clear d (c.again.invariant.kept d stood);
+  clear = c.in_ok-cut.ensures.clear c.again.invariant.clear;
+}

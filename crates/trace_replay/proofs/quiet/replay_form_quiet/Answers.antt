@@ -1,6 +1,6 @@
 use Rattle.std.proofs.Common.{◌≡◌, refl, ◌∙◌, rules}
 use Rattle.trace_replay.proofs.ExitLemmas.{blamed_at}
-use Rattle.trace_replay.proofs.FromLemmas.{before_itself, ends_from, whole_at}
+use Rattle.trace_replay.proofs.FromLemmas.{before_itself, ends_failed, ends_from, ends_says, whole_at}
 use Rattle.trace_replay.proofs.StreamLemmas.{known_by, lent_apart}
 use Rattle.trace_replay.proofs.QuietLemmas.{shown_refusal, told_nothing, told_refusal}
 use Rattle.trace_replay.proofs.quiet.replay_form_quiet.Goals as goal
@@ -17,7 +17,7 @@ returns-clause-ends g c =
     let size : script.reader.size ≡ told.geometry.size = c.replay_script.ensures.goes.size ∙ c.new-stream.ensures.size ∙ c.size.ensures in
     ends_from told _ _ _ _ _ _ _ _ _
     (known_by g.F.LineForm.says script.reader.size told.geometry.size a (g.I.Source.state script.source.now) _ size (search (rules, same_source)))
-    (λ run answers says. told_refusal x (g.O.Sink.state script.sink.now) _ (search (rules, same_sink)) run answers says.0 says.1.said says.2.0.said)
+    (λ run answers says. told_refusal x (g.O.Sink.state script.sink.now) _ _ (search (rules, same_sink)) (search (rules, same_sink)) run answers says.0 says.1.said says.2.0.said)
     (λ y d stood. stood)
     (before_itself _)
     _ _ (shown_refusal x (g.O.Sink.state script.sink.now) _ (search (rules, same_sink)))
@@ -31,7 +31,7 @@ returns-clause-silent g c =
     let apart = lent_apart _ _ _ _ _ _ _ _ c.replay_script.ensures.goes.script_lent in
     let same_sink : script.sink.ghost_name ≡ c.new-stream.result.sink.ghost_name = apart.1 in
     whole_at _ _ _ _ _ _ _ c.replay_script.result (λ ran.
-    told_nothing x.taken _ ran.run ran.cuts ran.lost (told_refusal x (g.O.Sink.state script.sink.now) _ (search (rules, same_sink)) ran.run _ ran.printed.0 ran.printed.1.said ran.printed.2.0.said))
+    told_nothing x.taken _ ran.run ran.cuts ran.lost (told_refusal x (g.O.Sink.state script.sink.now) _ (g.O.Sink.state script.sink.now).faults (search (rules, same_sink)) refl ran.run _ ran.printed.0 ran.printed.1.said ran.printed.2.0.said).0)
     (c.replay_script.ensures.ends a x c.new-stream.ensures.came)
 
 pub returns-clause-causes : goal.returns-clause-causes
@@ -42,11 +42,15 @@ returns-clause-causes g c =
     let same_sink : script.sink.ghost_name ≡ c.new-stream.result.sink.ghost_name = apart.1 in
     let r = c.replay_script.result in
     let blames = c.replay_script.ensures.causes in
+    let ends = c.replay_script.ensures.ends (g.I.Source.state c.args.source.now) (g.O.Sink.state c.args.sink.now) c.new-stream.ensures.came in
     record {
       source = λ is. (let rose = (blamed_at r _ _ blames is).source refl in search (rules, same_source, rose));
       sink = λ is. (let rose = (blamed_at r _ _ blames is).sink refl in search (rules, same_sink, rose));
       flash = λ is. (blamed_at r _ _ blames is).flash refl;
       disk = λ is. (blamed_at r _ _ blames is).disk refl;
+      source_stays = λ not. (let same = c.replay_script.ensures.told not in search (rules, same_source, same));
+      sink_stays = λ not. (let same = (ends_says _ _ _ _ _ _ _ r ends not).2.2.0.said.1 in search (rules, same_sink, same));
+      none_failed = ends_failed _ _ _ _ _ _ _ r ends;
     }
 
 pub returns-clause-goes : goal.returns-clause-goes

@@ -41,7 +41,7 @@ returns-in_err-answer-clause-said g c =
     let i = c.loop-answer.answer-index in
     let said = c.in_err-answer.ensures in
     let one = says_of (tells g) (came g) (broke g) (knows g) c.loop-answer.self c.answer.new.self (get_or all i _) (Err c.in_err-answer.field-0.0) said.taken said.sink said.memory said.only
-    (record { source = said.goes.source_later; sink = said.goes.later; lent = said.goes.lent; size = said.goes.size; turns = said.goes.turns; knew = said.knew }) in
+    (record { source = said.no_source; sink = said.goes.later; lent = said.goes.lent; size = said.goes.size; turns = said.goes.turns; knew = said.knew }) in
     says_ends (tells g) (came g) (broke g) (knows g) _ _ _ c.from_residual.result _ c.from_residual.ensures.1
     (script_then (tells g) (came g) (broke g) (knows g) _ _ _ c.loop-answer.invariant.goes one.goes)
     (ends_within (tells g) (came g) (broke g) (knows g) _ _ _ _ (take i all) _ (drop (i + 1) all) _ (split_at all i _ (omega arith)) c.loop-answer.invariant.goes c.loop-answer.invariant.said one.ended)
@@ -54,7 +54,7 @@ loop-answer-preserved g c =
     let said = c.in_ok-answer.ensures in
     record {
       goes = script_then (tells g) (came g) (broke g) (knows g) c.args.self.now c.loop-answer.self c.answer.new.self c.loop-answer.invariant.goes
-          (record { source = said.goes.source_later; sink = said.goes.later; lent = said.goes.lent; size = said.goes.size; turns = said.goes.turns; knew = said.knew });
+          (record { source = said.no_source; sink = said.goes.later; lent = said.goes.lent; size = said.goes.size; turns = said.goes.turns; knew = said.knew });
       said = subst (λ (xs : List Answer). Says (came g) c.args.self.now c.answer.new.self xs) (sym (take_more all i _ within))
           (says_then (came g) c.args.self.now c.loop-answer.self c.answer.new.self (take i all) (get_or all i _ ∷ []) c.loop-answer.invariant.said said.taken);
     }

@@ -1,5 +1,4 @@
 use Rattle.std.proofs.Common.{◌+◌, ◌*◌, ◌++◌, ◌∷◌, [], true, false, inl, inr, map, refl, sym, ap, ◌∙◌, subst, arith}
-use Rattle.ft_base.proofs.AppendsLemmas.{appends_none}
 use Rattle.trace_model.specs.declared.answer.Answer.TheVariants as answer
 use Rattle.trace_model.specs.declared.line.Line.{Line}
 use Rattle.trace_model.specs.Lines.{IsRunnable}
@@ -13,7 +12,7 @@ use Rattle.many_disks.specs.declared.next.Next.TheVariants as next
 use Rattle.many_disks.specs.Script.{CameMany, code, coded}
 use Rattle.many_disks.proofs.NextLemmas.{came_sought, code_says, gathered_says, one_turn, refusal_broke, refusal_took, stop_shifted}
 use Rattle.many_disks.proofs.ReadLemmas.{knows_lines, next_refused, next_said}
-use Rattle.many_disks.proofs.ScriptLemmas.{broke_disk, came_disk, came_none, came_plain, runnable_volume, start_within}
+use Rattle.many_disks.proofs.ScriptLemmas.{adds_none, broke_disk, came_disk, came_none, came_plain, runnable_volume, start_within}
 use Rattle.many_disks.proofs.TallyLemmas.{count_more, counted_nothing}
 use Rattle.many_disks.proofs.script.ManyScriptScript.next.Goals as goal
 
@@ -143,7 +142,7 @@ returns-in-End-clause-end g c = λ _.
     let x = g.O.Sink.state self.sink.now in (
       λ s b e came.
           let now = came_sought self.share self.disks self.chosen self.tallies.each self.reader q (g.I.Source.state self.source.now) z x c.seek_line.ensures.size c.seek_line.ensures.came s b e came in
-          came_none self.share self.disks q self.chosen self.tallies.each z x s b e now x (appends_none x.taken),
+          came_none self.share self.disks q self.chosen self.tallies.each z x s b e now x (adds_none x),
       λ s b e came.
           let now = came_sought self.share self.disks self.chosen self.tallies.each self.reader q (g.I.Source.state self.source.now) z x c.seek_line.ensures.size c.seek_line.ensures.came s b e came in
           knows_lines self.share self.disks q self.chosen self.tallies.each z x s b e now true (c.in-End.ensures.end refl s (map code now.many) now.read),
@@ -158,7 +157,7 @@ returns-in-Failed-clause-source g c = λ _.
       c.in-Failed.ensures.fault refl,
       λ s b e came.
           let now = came_sought self.share self.disks self.chosen self.tallies.each self.reader q (g.I.Source.state self.source.now) z x c.seek_line.ensures.size c.seek_line.ensures.came s b e came in
-          came_none self.share self.disks q self.chosen self.tallies.each z x s b e now x (appends_none x.taken),
+          came_none self.share self.disks q self.chosen self.tallies.each z x s b e now x (adds_none x),
       λ s b e came.
           let now = came_sought self.share self.disks self.chosen self.tallies.each self.reader q (g.I.Source.state self.source.now) z x c.seek_line.ensures.size c.seek_line.ensures.came s b e came in
           knows_lines self.share self.disks q self.chosen self.tallies.each z x s b e now false (c.in-Failed.ensures.failed refl s (map code now.many) now.read),
