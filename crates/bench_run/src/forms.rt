@@ -1,8 +1,10 @@
-//! A trace that reads cached blocks, in both forms of lines; and lines in the form of MSR Cambridge that ask for
-//! nothing, so that they cost only their reading. All are measured in one process, one after the other.
+//! A trace that reads cached blocks, in both forms of lines, beside a plain loop that copies and hashes as many blocks;
+//! and lines in the form of MSR Cambridge that ask for nothing, so that they cost only their reading. All are measured
+//! in one process, one after the other.
 ghost use Rattle.std.specs.Prelude.{◌≡◌};
 ghost use Rattle.bench_figures.specs.Figures.{hundredths, nanoseconds};
 
+use crate::floor::floor;
 use crate::replayed::run_timed;
 use bench_figures::{hundredths_of, nanoseconds};
 use std::alloc::{AllocError, Global};
@@ -28,6 +30,8 @@ pub struct Formed {
     pub msr: Duration,
     /// How long as many lines in that form took that ask for no byte.
     pub reading: Duration,
+    /// How long a plain loop took that copies a page and hashes a block for each line.
+    pub floor: Duration,
 }
 
 impl Formed {
@@ -43,6 +47,13 @@ impl Formed {
         ensures { result ≡ hundredths (nanoseconds self.now.reading) (nanoseconds self.now.words) }
     {
         hundredths_of(nanoseconds(self.reading), nanoseconds(self.words))
+    }
+
+    /// The time of the lines of words divided by the time of the plain loop, in hundredths.
+    pub fn floor_ratio(&self) -> u64
+        ensures { result ≡ hundredths (nanoseconds self.now.words) (nanoseconds self.now.floor) }
+    {
+        hundredths_of(nanoseconds(self.words), nanoseconds(self.floor))
     }
 }
 
@@ -78,8 +89,8 @@ fn with_form(alloc: Global, options: &[String]) -> Result<Vec<String>, AllocErro
     Ok(words)
 }
 
-/// Runs the trace in both forms over a cache of these options, and as many lines that ask for nothing. A status other
-/// than 0 is the `Err` within.
+/// Runs the trace in both forms over a cache of these options, and as many lines that ask for nothing; then the plain
+/// loop. A status other than 0 is the `Err` within.
 pub fn read_forms(
     rt: &(impl AllocGlobal + Clock),
     options: &[String],
@@ -99,11 +110,12 @@ pub fn read_forms(
     )?;
     let reading = run_timed(rt, "replay", others.as_slice(), msr_trace(alloc, 0)?, ROOM)?;
     if msr.text.as_slice() != words.text.as_slice() {
-        return Err(io::Error::other("the two forms tell two texts"));
+        return Err(io::Error::other("the two forms print two texts"));
     }
     Ok(Ok(Formed {
         words: words.time,
         msr: msr.time,
         reading: reading.time,
+        floor: floor(rt, 4, LINES, LINES)?,
     }))
 }

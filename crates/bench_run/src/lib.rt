@@ -109,14 +109,16 @@ pub fn measure_forms(
             return Ok(status);
         }
     };
-    let (ratio, reading) = (formed.ratio(), formed.reading_ratio());
+    let (ratio, reading, floor) = (formed.ratio(), formed.reading_ratio(), formed.floor_ratio());
     let (words, msr) = (formed.words.as_millis(), formed.msr.as_millis());
     println!(rt;
-        "20001 lines: of words {words} ms, in the form msr {msr} ms: {}.{:02} times; reading these alone: {}.{:02} times",
+        "20001 lines: of words {words} ms, in the form msr {msr} ms: {}.{:02} times; reading these alone: {}.{:02} times; the lines of words take {}.{:02} times a copy and a hash each",
         ratio / 100,
         ratio % 100,
         reading / 100,
-        reading % 100
+        reading % 100,
+        floor / 100,
+        floor % 100
     )?;
     Ok(0)
 }

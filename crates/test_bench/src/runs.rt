@@ -97,8 +97,10 @@ fn a_trace_is_measured_in_both_forms(rt: HostRuntime) -> Result<(), Fail> {
         words: Duration::from_micros(2_000),
         msr: Duration::from_micros(2_500),
         reading: Duration::from_micros(600),
+        floor: Duration::from_micros(4_000),
     };
-    assert_eq!(rt; (formed.ratio(), formed.reading_ratio()), (125, 30));
+    let ratios = (formed.ratio(), formed.reading_ratio(), formed.floor_ratio());
+    assert_eq!(rt; ratios, (125, 30, 50));
     Ok(())
 }
 
